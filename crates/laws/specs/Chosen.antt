@@ -1,0 +1,172 @@
+-- The chosen next of each start, by the tie rule of that start, and the setting that follows the chosen nexts: it is
+-- admissible and has the least total. Assumes nothing.
+use Prim.Native.Nat.{ℕ, zero, suc, _+_, _-_, _≤_, _<_}
+use mathlib.Core.Path.{_≡_, refl, ap, sym, subst, _∙_}
+use mathlib.Core.Logic.{⊎-elim, _↔_}
+use mathlib.Core.Bool.{Bool, true, false, not, _&&_}
+use mathlib.Core.List.{List, [], _∷_}
+use native.Mathlib.Omega.{arith}
+use lib.Dec.{T, leb, leb→le, nleb→lt}
+use Rattle.laws.specs.Number.{both}
+use Rattle.laws.specs.Cost.{Cost, none, some, _≼_, leq, leq→≼, ≼→leq, ≼-refl, ≼-antisym, some-inj, Has, before, before-has, Reached}
+use Rattle.laws.specs.Search.{Tie, Ahead, Found, Missing, Picked, pick, pick-is, ahead-antisym}
+use Rattle.laws.specs.Setting.{Problem, Monotone, Choice, Admissible, admissible-early, total, LeastTotal, through, Step}
+use Rattle.laws.specs.Table.{best, best-steps, best-end, best-is}
+
+-- j is the chosen next of start i: i has a setting, the line to j gives the best, and the tie rule takes j before every
+-- other that gives it
+pub record Next (p : Problem) (tie : Tie) (i j : ℕ) : Type 0 where
+  pub has : Has (best p i)
+  pub choice : Choice p i j
+  pub gives : through p (best p) i j ≡ best p i
+  pub ahead : (k : ℕ) → Choice p i k → through p (best p) i k ≡ best p i → Ahead tie j k
+
+pub next-unique : {p : Problem} {tie : Tie} {i j k : ℕ} → Next p tie i j → Next p tie i k → j ≡ k
+next-unique {tie = tie} {j = j} {k = k} m n = ahead-antisym tie (m .ahead k (n .choice) (n .gives)) (n .ahead j (m .choice) (m .gives))
+
+-- ---- computed
+-- the line to j is admissible, and costs no more than the best
+abbrev pub gives? : Problem → ℕ → ℕ → Bool
+gives? p i j = p .fits i j && leq (through p (best p) i j) (best p i)
+
+-- the chosen next; 0 where start i has no setting
+abbrev pub nextOf : Problem → Tie → Cost → ℕ → ℕ
+nextOf p tie none i = 0
+nextOf p tie (some v) i = pick tie (gives? p i) (suc i) (p .end - i)
+
+unfoldable pub next : Problem → Tie → ℕ → ℕ
+next p tie i = nextOf p tie (best p i) i
+
+module _ (p : Problem) (tie : Tie) (i : ℕ) (early : i < p .end) where
+  gives-choice : (j : ℕ) → i < j → j ≤ p .end → T (gives? p i j) → Choice p i j × (through p (best p) i j ≼ best p i)
+  gives-choice j lt le t =
+      let h = both (p .fits i j) (leq (through p (best p) i j) (best p i)) t in
+      (record { rises = lt; within = le; admissible = h .0 }, leq→≼ (through p (best p) i j) (best p i) (h .1))
+
+  choice-gives : (j : ℕ) → Choice p i j → through p (best p) i j ≼ best p i → T (gives? p i j)
+  choice-gives j ch le = go (p .fits i j) (leq (through p (best p) i j) (best p i)) (ch .admissible) (≼→leq (through p (best p) i j) (best p i) le)
+    where
+      go : (a b : Bool) → T a → T b → T (a && b)
+      go true true s t = tt
+      go true false s t = absurd t
+      go false b s t = absurd s
+
+  choice-in : (j : ℕ) → Choice p i j → j < suc i + (p .end - i)
+  choice-in j ch = omega (arith, ch .within)
+
+  found : Has (best p i) → (j : ℕ) → Found tie (gives? p i) (suc i) (p .end - i) j → Next p tie i j
+  found has j f =
+      let g = gives-choice j (f .from) (omega (arith, f .below)) (f .passes) in
+      record {
+        has = has;
+        choice = g .0;
+        gives = ≼-antisym (through p (best p) i j) (best p i) (g .1) (best-steps p i early .low j (g .0));
+        ahead = λ k ch e. f .ahead k (ch .rises) (choice-in k ch) (choice-gives k ch (subst (λ (z : Cost). z ≼ best p i) (sym e) (≼-refl (best p i))));
+      }
+
+  -- a start with a best has a choice that reaches it
+  missing : (v j : ℕ) → Reached (Choice p i) (through p (best p) i) (some v) → best p i ≡ some v → ¬ Missing (gives? p i) (suc i) (p .end - i) j
+  missing v j r e m =
+      m .fails (r .0) (r .1 .rises) (choice-in (r .0) (r .1))
+      (choice-gives (r .0) (r .1) (subst (λ (z : Cost). z ≼ best p i) (e ∙ sym (r .2)) (≼-refl (best p i))))
+
+  reaching : (c : Cost) → best p i ≡ c → Step p (best p) i c
+  reaching c e = subst (Step p (best p) i) e (best-steps p i early)
+
+  next-of : (c : Cost) → best p i ≡ c → Has c → Next p tie i (nextOf p tie c i)
+  next-of none e h = absurd h
+  next-of (some v) e h =
+      ⊎-elim
+      (λ f. found (subst Has (sym e) tt) (pick tie (gives? p i) (suc i) (p .end - i)) f)
+      (λ m. absurd (missing v (pick tie (gives? p i) (suc i) (p .end - i)) (reaching (some v) e .reached) e m))
+      (pick-is tie (gives? p i) (suc i) (p .end - i))
+
+  -- what is computed is the chosen next
+  pub next-is : Has (best p i) → Next p tie i (next p tie i)
+  unfolding next
+  next-is h = next-of (best p i) refl h
+
+  pub next-none : best p i ≡ none → next p tie i ≡ 0
+  unfolding next
+  next-none e = rw e
+
+-- ---- the setting that follows the chosen nexts
+module _ (p : Problem) (tie : ℕ → Tie) where
+  abbrev pub Follows : ℕ → List ℕ → Type 0
+  Follows i [] = Next p (tie i) i (p .end)
+  Follows i (j ∷ js) = Next p (tie i) i j × Follows j js
+
+  pub follows-admissible : (i : ℕ) (js : List ℕ) → Follows i js → Admissible p i js
+  follows-admissible i [] h = h .choice
+  follows-admissible i (j ∷ js) h = (h .0 .choice, follows-admissible j js (h .1))
+
+  pub follows-total : (i : ℕ) (js : List ℕ) → Follows i js → best p i ≡ some (total p i js)
+  follows-total i [] h = sym (h .gives) ∙ ap (λ (a : Cost). before (p .join) (p .cost i (p .end)) a) (best-end p)
+  follows-total i (j ∷ js) h = sym (h .0 .gives) ∙ ap (λ (a : Cost). before (p .join) (p .cost i j) a) (follows-total j js (h .1))
+
+  -- nothing follows the end
+  follows-early : (i : ℕ) (js : List ℕ) → Follows i js → p .end ≡ i → ⊥
+  follows-early i js h e = omega (arith, admissible-early p i js (follows-admissible i js h))
+
+  pub follows-unique : (i : ℕ) (js ks : List ℕ) → Follows i js → Follows i ks → js ≡ ks
+  follows-unique i [] [] h g = refl
+  follows-unique i [] (k ∷ ks) h g = absurd (follows-early k ks (g .1) (next-unique h (g .0)))
+  follows-unique i (j ∷ js) [] h g = absurd (follows-early j js (h .1) (next-unique g (h .0)))
+  follows-unique i (j ∷ js) (k ∷ ks) h g =
+      let e : j ≡ k = next-unique (h .0) (g .0) in
+      rw e (ap (λ (z : List ℕ). k ∷ z) (follows-unique k js ks (subst (λ (z : ℕ). Follows z js) e (h .1)) (g .1)))
+
+-- the later starts after i, at most d of them: follow the nexts up to the end
+abbrev pub follow : ℕ → (ℕ → ℕ) → ℕ → ℕ → List ℕ
+follow e f zero i = []
+follow e f (suc d) i = elim (leb e (f i)) [ true ↦ [] | false ↦ f i ∷ follow e f d (f i) ]
+
+module _ (p : Problem) (tie : ℕ → Tie) (f : ℕ → ℕ)
+    (chosen : (i : ℕ) → i < p .end → Has (best p i) → Next p (tie i) i (f i)) where
+  -- the rest after a chosen next has a best
+  next-has : (i j : ℕ) → Next p (tie i) i j → Has (best p j)
+  next-has i j n = before-has (p .join) (p .cost i j) (best p j) (subst Has (sym (n .gives)) (n .has))
+
+  follow-from : (d i : ℕ) → i < p .end → p .end ≤ i + d → Has (best p i) → Follows p tie i (follow (p .end) f d i)
+  follow-from zero i lt le h = absurd (omega arith)
+  follow-from (suc d) i lt le h = go (leb (p .end) (f i)) refl (chosen i lt h) (λ n g. follow-from d (f i) g (omega (arith, n .choice .rises)) (next-has i (f i) n))
+    where
+      go : (b : Bool) → leb (p .end) (f i) ≡ b → Next p (tie i) i (f i) →
+          (Next p (tie i) i (f i) → f i < p .end → Follows p tie (f i) (follow (p .end) f d (f i))) →
+          Follows p tie i (elim b [ true ↦ [] | false ↦ f i ∷ follow (p .end) f d (f i) ])
+      go true e n rest = subst (Next p (tie i) i) (omega (arith, n .choice .within, leb→le (p .end) (f i) (subst T (sym e) tt))) n
+      go false e n rest = (n, rest n (nleb→lt (p .end) (f i) (subst (λ (b : Bool). T (not b)) (sym e) tt)))
+
+  -- A start with a best has a setting that follows the chosen nexts: this one.
+  pub follow-follows : (i : ℕ) → i < p .end → Has (best p i) → Follows p tie i (follow (p .end) f (p .end) i)
+  follow-follows i lt h = follow-from (p .end) i lt (omega arith) h
+
+-- ---- right by the definitions
+-- The setting from i with the later starts js is admissible, has the total v, and no admissible one has a smaller total.
+pub record Cheapest (p : Problem) (i v : ℕ) (js : List ℕ) : Type 0 where
+  pub admissible : Admissible p i js
+  pub costs : total p i js ≡ v
+  pub least : (ks : List ℕ) → Admissible p i ks → v ≤ total p i ks
+
+pub follows-cheapest : (p : Problem) → Monotone p → (tie : ℕ → Tie) (i v : ℕ) (js : List ℕ) → best p i ≡ some v → Follows p tie i js → Cheapest p i v js
+follows-cheapest p mono tie i v js e f = record {
+  admissible = follows-admissible p tie i js f;
+  costs = some-inj (sym (follows-total p tie i js f) ∙ e);
+  least = λ ks a. subst (λ (c : Cost). c ≼ some (total p i ks)) e (best-is p mono i (omega (arith, admissible-early p i ks a)) .early (admissible-early p i ks a) .low ks a);
+}
+
+-- There is no best exactly where there is no admissible setting.
+pub none-exactly : (p : Problem) → Monotone p → (i : ℕ) → i < p .end → (best p i ≡ none) ↔ ((js : List ℕ) → ¬ Admissible p i js)
+none-exactly p mono i early = (to, from (best p i) refl)
+  where
+    least : LeastTotal p i (best p i)
+    least = best-is p mono i (omega arith) .early early
+
+    to : best p i ≡ none → (js : List ℕ) → ¬ Admissible p i js
+    to e js a = subst (λ (c : Cost). c ≼ some (total p i js)) e (least .low js a)
+
+    from : (c : Cost) → best p i ≡ c → ((js : List ℕ) → ¬ Admissible p i js) → best p i ≡ none
+    from none e nobody = e
+    from (some v) e nobody =
+        let r = subst (LeastTotal p i) e least .reached in
+        absurd (nobody (r .0) (r .1))

@@ -1,0 +1,41 @@
+-- Natural numbers: to decide an order, to be rid of a difference, and a choice by a test. Assumes nothing.
+use Prim.Native.Nat.{ℕ, _+_, _-_, _≤_, _<_}
+use mathlib.Core.Path.{_≡_, refl, subst}
+use mathlib.Core.Logic.{_⊎_, inl, inr}
+use mathlib.Core.Bool.{Bool, true, false, _&&_}
+use mathlib.Core.List.{List, [], _∷_}
+use native.Mathlib.Decide.{decLe}
+use native.Mathlib.Omega.{arith}
+use lib.Dec.{T}
+
+pub split : (a b : ℕ) → (a ≤ b) ⊎ (b < a)
+split a b = go (decLe a b)
+  where
+    go : Dec (a ≤ b) → (a ≤ b) ⊎ (b < a)
+    go (yes h) = inl h
+    go (no h) = inr (omega arith)
+
+-- What holds of a + d for every d holds of each b ≥ a.
+pub up : (P : ℕ → Type 0) (a b : ℕ) → a ≤ b → ((d : ℕ) → P (a + d)) → P b
+up P a b h k =
+    let e : a + (b - a) ≡ b = omega arith in
+    subst P e (k (b - a))
+
+-- the first of two where the test holds, else the second
+abbrev pub if : {A : Type 0} → Bool → A → A → A
+if true x y = x
+if false x y = y
+
+-- two tests, and a test of each entry of a list
+pub both : (a b : Bool) → T (a && b) → T a × T b
+both true b t = (tt, t)
+both false b t = absurd t
+
+abbrev pub all : {A : Type 0} → (A → Bool) → List A → Bool
+all P [] = true
+all P (x ∷ xs) = P x && all P xs
+
+-- A test held or failed, with the equation that says which.
+pub tested : (b : Bool) → (b ≡ true) ⊎ (b ≡ false)
+tested true = inl refl
+tested false = inr refl

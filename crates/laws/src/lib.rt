@@ -1,0 +1,1 @@
+// Theory alone: the laws that the engines' proofs cite stand in specs/.

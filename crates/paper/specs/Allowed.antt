@@ -1,0 +1,28 @@
+-- 01, "Numbers allowed".
+use Prim.Native.Nat.{ℕ}
+use mathlib.Core.Bool.{Bool, _&&_}
+use lib.Dec.{leb, ltb}
+use Rattle.paper.specs.declared.Limits.{Limits}
+use Rattle.paper.specs.declared.PageLimits.{PageLimits}
+
+-- "n: 1 to 4,096."
+abbrev pub mostWords : ℕ
+mostWords = 4096
+
+-- "Each length: 1 to 4,095."
+unfoldable pub lengthHolds : ℕ → Bool
+lengthHolds w = leb 1 w && leb w 4095
+
+-- "Paragraph: 1 ≤ lmin ≤ lopt ≤ lmax ≤ 4,095, lmin < lmax, A from 1 to 15."
+unfoldable pub limitsHold : Limits → Bool
+limitsHold l =
+    leb 1 (l .lmin) && (leb (l .lmin) (l .lopt) && (leb (l .lopt) (l .lmax) && (leb (l .lmax) 4095
+    && (ltb (l .lmin) (l .lmax) && (leb 1 (l .a) && leb (l .a) 15)))))
+
+-- "Index: 0 ≤ lmin < lmax ≤ 65,535."
+unfoldable pub pageLimitsHold : PageLimits → Bool
+pageLimitsHold l = ltb (l .lmin) (l .lmax) && leb (l .lmax) 65535
+
+-- "one length from 0 to 16,773,120"
+abbrev pub mostAlone : ℕ
+mostAlone = 16773120

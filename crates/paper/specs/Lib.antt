@@ -1,0 +1,12 @@
+-- The definitions of document 01, in its order. Each stands under the sentence of 01 that it renders.
+pub mod Paragraph
+pub mod Index
+pub mod Allowed
+pub mod Told
+pub mod Moves
+pub mod QueueRules
+pub mod PointerRules
+pub mod Strips
+pub mod Right
+pub mod Marked
+pub mod Edges

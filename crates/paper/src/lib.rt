@@ -1,0 +1,63 @@
+// The types of document 01. What they mean stands in specs/, in 01's order.
+
+// The limits of a paragraph: lmin, lopt, lmax and A.
+#[repr(C)]
+pub struct Limits {
+    pub lmin: u32,
+    pub lopt: u32,
+    pub lmax: u32,
+    pub a: u32,
+}
+
+// The limits of an index.
+#[repr(C)]
+pub struct PageLimits {
+    pub lmin: u32,
+    pub lmax: u32,
+}
+
+// "Kinds: 1 Add, 2 Pass, 3 Drop, 4 Pop, 5 Step, 6 Jump, 7 Link."
+pub enum Kind {
+    Add,
+    Pass,
+    Drop,
+    Pop,
+    Step,
+    Jump,
+    Link,
+}
+
+// "A move is a kind with the index it touches."
+pub struct Move {
+    pub kind: Kind,
+    pub index: u32,
+}
+
+// What a caller is told when nothing is set, but for NONE, which has moves to tell.
+pub enum Refusal {
+    Empty,
+    Many,
+    Limits,
+    Length(usize),
+    Room(usize),
+    Job(usize),
+}
+
+// The answer of a setter.
+pub enum Answer {
+    Set {
+        total: u64,
+        lines: usize,
+        moves: usize,
+    },
+    None {
+        moves: usize,
+    },
+    Refused(Refusal),
+}
+
+// The answer to one who asks for the penalty formula alone.
+pub enum Penalty {
+    Of(u64),
+    Refused(Refusal),
+}
