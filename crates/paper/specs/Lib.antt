@@ -7,6 +7,8 @@ pub mod Moves
 pub mod QueueRules
 pub mod PointerRules
 pub mod Strips
+pub mod Scale
 pub mod Right
 pub mod Marked
 pub mod Edges
+pub mod Bound

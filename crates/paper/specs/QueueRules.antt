@@ -11,15 +11,17 @@ use Rattle.paper.specs.declared.Move.{Move}
 use Rattle.paper.specs.Paragraph.{line, penalty, best, end}
 use Rattle.paper.specs.Moves.{move, Taken, still, moved, joined}
 
--- What the rules read: the limits, Line from a start to a break, Line between two breaks, and the best of each index.
+-- What the rules read: the limits, the penalty formula, Line from a start to a break, Line between two breaks, and the best of
+-- each index.
 pub record Text : Type 0 where
   pub limits : Limits
+  pub penalty : ℕ → ℕ
   pub line : ℕ → ℕ → ℕ
   pub apart : ℕ → ℕ → ℕ
   pub best : ℕ → Cost
 
 unfoldable pub textOf : Limits → List ℕ → Text
-textOf l ws = record { limits = l; line = line ws; apart = line ws; best = best l ws }
+textOf l ws = record { limits = l; penalty = penalty l; line = line ws; apart = line ws; best = best l ws }
 
 -- the number of an index that has a setting
 abbrev pub bestOf : Text → ℕ → ℕ
@@ -27,13 +29,13 @@ bestOf t j = value (t .best j)
 
 -- "F(i, j) = best of j + A·(Line(i, j) - lopt)², also for j = n+1."
 unfoldable pub F : Text → ℕ → ℕ → ℕ
-F t i j = bestOf t j + penalty (t .limits) (t .line i j)
+F t i j = bestOf t j + t .penalty (t .line i j)
 
 -- "best k + p(lmax - Line(k, l)) ≥ best j + p(lmax - Line(j, l))", p being the penalty formula
 unfoldable pub edge : Text → ℕ → ℕ → ℕ → Bool
 edge t j k l =
-    leb (bestOf t j + penalty (t .limits) (t .limits .lmax - t .apart j l))
-    (bestOf t k + penalty (t .limits) (t .limits .lmax - t .apart k l))
+    leb (bestOf t j + t .penalty (t .limits .lmax - t .apart j l))
+    (bestOf t k + t .penalty (t .limits .lmax - t .apart k l))
 
 -- "Line(j, l)·best k ≥ Line(j, k)·best l + Line(k, l)·best j + A·Line(j, k)·Line(j, l)·Line(k, l)"
 unfoldable pub chord : Text → ℕ → ℕ → ℕ → Bool
