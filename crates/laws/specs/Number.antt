@@ -39,3 +39,12 @@ all P (x ∷ xs) = P x && all P xs
 pub tested : (b : Bool) → (b ≡ true) ⊎ (b ≡ false)
 tested true = inl refl
 tested false = inr refl
+
+-- what a choice comes to where its test is known
+pub when-true : {A : Type 0} (b : Bool) (x y : A) → b ≡ true → elim b [ true ↦ x | false ↦ y ] ≡ x
+when-true true x y e = refl
+when-true false x y e = let z : _≡_ {A = ℕ} 0 1 = cc in absurd (omega arith)
+
+pub when-false : {A : Type 0} (b : Bool) (x y : A) → b ≡ false → elim b [ true ↦ x | false ↦ y ] ≡ y
+when-false true x y e = let z : _≡_ {A = ℕ} 0 1 = cc in absurd (omega arith)
+when-false false x y e = refl

@@ -17,7 +17,9 @@ use Rattle.paper.specs.Paragraph.{sum, line, admissible, penalty, charge
 use Rattle.paper.specs.Index as Index
 use Rattle.paper.specs.Index.{gap, page, item, index}
 use Rattle.paper.specs.Allowed.{lengthHolds, limitsHold, pageLimitsHold}
-use Rattle.paper.specs.Told.{Checked, refuse, accept, checked, firstFailing}
+use Rattle.paper.specs.declared.Checked.{Checked}
+use Rattle.paper.specs.declared.Checked.the-variants.{Accept, Refuse}
+use Rattle.paper.specs.Told.{checked, firstFailing, firstShort}
 use Rattle.paper.specs.Moves.{code, kindNumber}
 use Rattle.paper.specs.QueueRules as QueueRules
 use Rattle.paper.specs.QueueRules.{textOf, F, edge, chord, dropLong, popWorse, popBridged, add, consider, candidates, dropWorse, settled, queueMoves}
@@ -43,17 +45,17 @@ page-limit-edges = refl
 
 -- ---- lengths and their number, with limits that hold and no strip too short
 abbrev given : List ℕ → Checked
-given ws = checked true ws []
+given ws = checked true ws [] []
 
 pub length-edges : map given ([] ∷ (4095 ∷ []) ∷ (3 ∷ 4096 ∷ 0 ∷ []) ∷ (3 ∷ 2 ∷ 0 ∷ []) ∷ replicate 4096 1 ∷ replicate 4097 1 ∷ [])
-    ≡ refuse Empty ∷ accept ∷ refuse (Length 2) ∷ refuse (Length 3) ∷ accept ∷ refuse Many ∷ []
-unfolding checked firstFailing lengthHolds
+    ≡ Refuse Empty ∷ Accept ∷ Refuse (Length 2) ∷ Refuse (Length 3) ∷ Accept ∷ Refuse Many ∷ []
+unfolding checked firstFailing firstShort lengthHolds
 length-edges = refl
 
 -- EMPTY comes before LIMITS, MANY before LIMITS, and LIMITS before LENGTH.
-pub refusal-order : map (λ (ws : List ℕ). checked false ws []) ([] ∷ replicate 4097 0 ∷ (0 ∷ []) ∷ [])
-    ≡ refuse Empty ∷ refuse Many ∷ refuse BadLimits ∷ []
-unfolding checked firstFailing lengthHolds
+pub refusal-order : map (λ (ws : List ℕ). checked false ws [] []) ([] ∷ replicate 4097 0 ∷ (0 ∷ []) ∷ [])
+    ≡ Refuse Empty ∷ Refuse Many ∷ Refuse BadLimits ∷ []
+unfolding checked firstFailing firstShort lengthHolds
 refusal-order = refl
 
 -- ---- the worked moves: "P1's moves are 41 43 33 25 35 28 17; G1's are 39 37 30."

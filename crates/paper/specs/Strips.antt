@@ -15,7 +15,9 @@ use Rattle.paper.specs.Paragraph as Paragraph
 use Rattle.paper.specs.Paragraph.{sum}
 use Rattle.paper.specs.Index as Index
 use Rattle.paper.specs.Allowed.{limitsHold, pageLimitsHold}
-use Rattle.paper.specs.Told.{Room?, Checked, refuse, accept, checked}
+use Rattle.paper.specs.declared.Checked.{Checked}
+use Rattle.paper.specs.declared.Checked.the-variants.{Accept, Refuse}
+use Rattle.paper.specs.Told.{checked}
 use Rattle.paper.specs.Moves.{code}
 use Rattle.paper.specs.QueueRules.{queueMoves}
 use Rattle.paper.specs.PointerRules.{pointerMoves}
@@ -43,9 +45,6 @@ leftEntry best j = pick largest (λ k. not (leq (best j) (best k))) 1 (j - 1)
 unfoldable pub rightEntry : (ℕ → Cost) → ℕ → ℕ → ℕ
 rightEntry best n j = pick smallest (λ k. leq (best k) (best j)) (j + 1) (n + 1 - j)
 
-abbrev room : List ℕ → ℕ → Room?
-room s needs = record { has = length s; needs = needs }
-
 -- ---- the paragraph
 -- "Paragraph, in order: sums (n+1 entries), best (n+1), next (n+1), queue (n), moves (2n), breaks (n)."
 pub record ParagraphStrips : Type 0 where
@@ -56,9 +55,11 @@ pub record ParagraphStrips : Type 0 where
   pub moves : List ℕ
   pub breaks : List ℕ
 
-unfoldable pub paragraphRoom : ℕ → ParagraphStrips → List Room?
-paragraphRoom n s =
-    room (s .sums) (n + 1) ∷ room (s .best) (n + 1) ∷ room (s .next) (n + 1) ∷ room (s .queue) n ∷ room (s .moves) (2 * n) ∷ room (s .breaks) n ∷ []
+abbrev pub paragraphHas : ParagraphStrips → List ℕ
+paragraphHas s = length (s .sums) ∷ length (s .best) ∷ length (s .next) ∷ length (s .queue) ∷ length (s .moves) ∷ length (s .breaks) ∷ []
+
+abbrev pub paragraphNeeds : ℕ → List ℕ
+paragraphNeeds n = (n + 1) ∷ (n + 1) ∷ (n + 1) ∷ n ∷ (2 * n) ∷ n ∷ []
 
 -- "In best and next the entry for every start holds its best and its chosen next [..] The end's next is 0. For the paragraph the
 -- first entry belongs to start 1 [..] The n queue entries are 0." The breaks are those given.
@@ -87,11 +88,11 @@ paragraphSet l ws s (some v) = record {
 
 -- "Refusals 1 to 5 change no strip"
 unfoldable pub paragraphChecked : Limits → List ℕ → ParagraphStrips → Checked → ParagraphOutcome
-paragraphChecked l ws s (refuse r) = record { answer = Refused r; strips = s }
-paragraphChecked l ws s accept = paragraphSet l ws s (Paragraph.best l ws 1)
+paragraphChecked l ws s (Refuse r) = record { answer = Refused r; strips = s }
+paragraphChecked l ws s Accept = paragraphSet l ws s (Paragraph.best l ws 1)
 
 unfoldable pub paragraphOutcome : Limits → List ℕ → ParagraphStrips → ParagraphOutcome
-paragraphOutcome l ws s = paragraphChecked l ws s (checked (limitsHold l) ws (paragraphRoom (length ws) s))
+paragraphOutcome l ws s = paragraphChecked l ws s (checked (limitsHold l) ws (paragraphHas s) (paragraphNeeds (length ws)))
 
 -- ---- the index
 -- "Index: sums (n+1), best (n+2), next (n+2), left (n+2), right (n+2), moves (2n), boundaries (n)."
@@ -104,10 +105,12 @@ pub record IndexStrips : Type 0 where
   pub moves : List ℕ
   pub boundaries : List ℕ
 
-unfoldable pub indexRoom : ℕ → IndexStrips → List Room?
-indexRoom n s =
-    room (s .sums) (n + 1) ∷ room (s .best) (n + 2) ∷ room (s .next) (n + 2) ∷ room (s .left) (n + 2) ∷ room (s .right) (n + 2)
-    ∷ room (s .moves) (2 * n) ∷ room (s .boundaries) n ∷ []
+abbrev pub indexHas : IndexStrips → List ℕ
+indexHas s =
+    length (s .sums) ∷ length (s .best) ∷ length (s .next) ∷ length (s .left) ∷ length (s .right) ∷ length (s .moves) ∷ length (s .boundaries) ∷ []
+
+abbrev pub indexNeeds : ℕ → List ℕ
+indexNeeds n = (n + 1) ∷ (n + 2) ∷ (n + 2) ∷ (n + 2) ∷ (n + 2) ∷ (2 * n) ∷ n ∷ []
 
 -- "for the index [the first entry belongs] to 0." "Entries for 0 in left, and for 0 and n+1 in right, are 0."
 unfoldable pub indexWritten : PageLimits → List ℕ → IndexStrips → List ℕ → IndexStrips
@@ -133,8 +136,8 @@ indexSet l ws s (some v) = record {
 }
 
 unfoldable pub indexChecked : PageLimits → List ℕ → IndexStrips → Checked → IndexOutcome
-indexChecked l ws s (refuse r) = record { answer = Refused r; strips = s }
-indexChecked l ws s accept = indexSet l ws s (Index.best l ws 0)
+indexChecked l ws s (Refuse r) = record { answer = Refused r; strips = s }
+indexChecked l ws s Accept = indexSet l ws s (Index.best l ws 0)
 
 unfoldable pub indexOutcome : PageLimits → List ℕ → IndexStrips → IndexOutcome
-indexOutcome l ws s = indexChecked l ws s (checked (pageLimitsHold l) ws (indexRoom (length ws) s))
+indexOutcome l ws s = indexChecked l ws s (checked (pageLimitsHold l) ws (indexHas s) (indexNeeds (length ws)))

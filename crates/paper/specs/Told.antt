@@ -1,12 +1,15 @@
 -- 01, "What a caller is told".
 use Prim.Native.Nat.{ℕ, zero, suc, _+_, _*_}
-use mathlib.Core.Bool.{Bool, true, false}
+use mathlib.Core.Bool.{Bool, true, false, not}
 use mathlib.Core.List.{List, [], _∷_}
 use lib.Dec.{leb, ltb, eqb}
 use lib.ListN.{length}
+use Rattle.laws.specs.Number.{if}
 use Rattle.paper.specs.declared.Limits.{Limits}
 use Rattle.paper.specs.declared.Refusal.{Refusal}
 use Rattle.paper.specs.declared.Refusal.the-variants.{Empty, Many, Limits as BadLimits, Length, Room, Job}
+use Rattle.paper.specs.declared.Checked.{Checked}
+use Rattle.paper.specs.declared.Checked.the-variants.{Accept, Refuse}
 use Rattle.paper.specs.declared.Answer.{Answer}
 use Rattle.paper.specs.declared.Answer.the-variants.{Set, None, Refused}
 use Rattle.paper.specs.declared.Penalty.{Penalty}
@@ -51,54 +54,27 @@ unfoldable pub firstFailing : {A : Type 0} → (A → Bool) → ℕ → List A �
 firstFailing ok k [] = 0
 firstFailing ok k (x ∷ xs) = elim (ok x) [ true ↦ firstFailing ok (suc k) xs | false ↦ k ]
 
--- a strip's length, and the entries that it must have room for
-pub record Room? : Type 0 where
-  pub has : ℕ
-  pub needs : ℕ
-
-abbrev enough : Room? → Bool
-enough r = leb (r .needs) (r .has)
-
-pub data Checked : Type 0 where
-  refuse : Refusal → Checked
-  accept : Checked
+-- the number of the first strip that has fewer entries than it needs, counted from k; 0 where none does
+unfoldable pub firstShort : ℕ → List ℕ → List ℕ → ℕ
+firstShort k [] needs = 0
+firstShort k (has ∷ hs) [] = 0
+firstShort k (has ∷ hs) (needs ∷ ns) = elim (leb needs has) [ true ↦ firstShort (suc k) hs ns | false ↦ k ]
 
 -- "The setter checks in the order 1 to 6; the first that applies is given." These are 1 to 5, for limits that hold or not, the
--- lengths, and the strips in their order.
-unfoldable pub checked : Bool → List ℕ → List Room? → Checked
-checked hold ws strips =
-    elim (eqb (length ws) 0) [
-      | true ↦ refuse Empty
-      | false ↦
-          elim (ltb mostWords (length ws)) [
-            | true ↦ refuse Many
-            | false ↦
-                elim hold [
-                  | false ↦ refuse BadLimits
-                  | true ↦
-                      elim (eqb (firstFailing lengthHolds 1 ws) 0) [
-                        | false ↦ refuse (Length (firstFailing lengthHolds 1 ws))
-                        | true ↦
-                            elim (eqb (firstFailing enough 1 strips) 0) [
-                              | false ↦ refuse (Room (firstFailing enough 1 strips))
-                              | true ↦
-                                  accept
-                            ]
-                      ]
-                ]
-          ]
-    ]
+-- lengths, what entries the strips have in their order, and what they need.
+unfoldable pub checked : Bool → List ℕ → List ℕ → List ℕ → Checked
+checked hold ws has needs =
+    if (eqb (length ws) 0) (Refuse Empty)
+    (if (ltb mostWords (length ws)) (Refuse Many)
+    (if (not hold) (Refuse BadLimits)
+    (if (not (eqb (firstFailing lengthHolds 1 ws) 0)) (Refuse (Length (firstFailing lengthHolds 1 ws)))
+    (if (not (eqb (firstShort 1 has needs) 0)) (Refuse (Room (firstShort 1 has needs)))
+    Accept))))
 
 -- "The penalty formula can also be asked for alone, from paragraph limits and one length from 0 to 16,773,120. It answers
 -- A·(x - lopt)², inside the measure or not. Bad limits are LIMITS; then a larger length is LENGTH, place 0."
 unfoldable pub penaltyAlone : Limits → ℕ → Penalty
 penaltyAlone l x =
-    elim (limitsHold l) [
-      | false ↦ PenaltyRefused BadLimits
-      | true ↦
-          elim (leb x mostAlone) [
-            | false ↦ PenaltyRefused (Length 0)
-            | true ↦
-                Of (penalty l x)
-          ]
-    ]
+    if (not (limitsHold l)) (PenaltyRefused BadLimits)
+    (if (ltb mostAlone x) (PenaltyRefused (Length 0))
+    (Of (penalty l x)))

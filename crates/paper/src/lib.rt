@@ -43,6 +43,12 @@ pub enum Refusal {
     Job(usize),
 }
 
+// What a setter's checks of its input find.
+pub enum Checked {
+    Accept,
+    Refuse(Refusal),
+}
+
 // The answer of a setter.
 pub enum Answer {
     Set {

@@ -1,0 +1,102 @@
+// The ranges of the numbers allowed, and refusals 1 to 5 in their order.
+use paper::Checked;
+use paper::Limits;
+use paper::PageLimits;
+use paper::Refusal;
+ghost use mathlib.Core.Path.{_≡_};
+ghost use Prim.Native.Nat.{ℕ, _≤_, _+_};
+ghost use lib.ListN.{length};
+ghost use Rattle.paper.specs.Allowed.{lengthHolds, limitsHold, pageLimitsHold};
+ghost use Rattle.paper.specs.Told.{firstFailing, firstShort, checked};
+
+pub fn limits_hold(l: Limits) -> bool
+    ensures { λ r. ⌜ r ≡ limitsHold l ⌝ }
+{
+    if l.lmin < 1 {
+        return false;
+    }
+    if l.lopt < l.lmin {
+        return false;
+    }
+    if l.lmax < l.lopt {
+        return false;
+    }
+    if 4095 < l.lmax {
+        return false;
+    }
+    if l.lmax <= l.lmin {
+        return false;
+    }
+    if l.a < 1 {
+        return false;
+    }
+    l.a <= 15
+}
+
+pub fn page_limits_hold(l: PageLimits) -> bool
+    ensures { λ r. ⌜ r ≡ pageLimitsHold l ⌝ }
+{
+    if l.lmax <= l.lmin {
+        return false;
+    }
+    l.lmax <= 65535
+}
+
+// The first word whose length is 0 or above 4,095, counted from 1; 0 where there is none.
+fn first_bad(lengths: &[u32]) -> usize
+    ensures { λ r. ⌜ r ≡ firstFailing lengthHolds 1 (now (lengths .entry)) ⌝ }
+{
+    let mut k = 0;
+    while k < lengths.len() {
+        let w = lengths[k];
+        if w < 1 {
+            return k + 1;
+        }
+        if 4095 < w {
+            return k + 1;
+        }
+        k += 1;
+    }
+    0
+}
+
+// The first strip that has fewer entries than it needs, counted from 1; 0 where there is none.
+fn first_short(has: &[usize], needs: &[usize]) -> usize
+    requires { ⌜ length (now has) ≤ length (now needs) ⌝ }
+    ensures { λ r. ⌜ r ≡ firstShort 1 (now (has .entry)) (now (needs .entry)) ⌝ }
+{
+    let mut k = 0;
+    while k < has.len() {
+        if has[k] < needs[k] {
+            return k + 1;
+        }
+        k += 1;
+    }
+    0
+}
+
+// The first of refusals 1 to 5 that applies; `hold` says whether the limits do.
+pub fn check(hold: bool, lengths: &[u32], has: &[usize], needs: &[usize]) -> Checked
+    requires { ⌜ length (now has) ≤ length (now needs) ⌝ }
+    ensures { λ r. ⌜ r ≡ checked hold (now (lengths .entry)) (now (has .entry)) (now (needs .entry)) ⌝ }
+{
+    let n = lengths.len();
+    if n == 0 {
+        return Checked::Refuse(Refusal::Empty);
+    }
+    if 4096 < n {
+        return Checked::Refuse(Refusal::Many);
+    }
+    if !hold {
+        return Checked::Refuse(Refusal::Limits);
+    }
+    let word = first_bad(lengths);
+    if word != 0 {
+        return Checked::Refuse(Refusal::Length(word));
+    }
+    let strip = first_short(has, needs);
+    if strip != 0 {
+        return Checked::Refuse(Refusal::Room(strip));
+    }
+    Checked::Accept
+}
