@@ -1,0 +1,71 @@
+-- `strips::fill_sums` meets its contract. Assumes nothing.
+use native.Mathlib.Omega.{arith}
+use borrow.Author.Needs.{needs}
+use Prim.Native.Nat.{_-_}
+use mathlib.Core.Path.{_∙_}
+use denote.Ref.{now}
+use lib.ListN.{length, length-set}
+use Rattle.strips.proofs.Writing.{Filling, filling-first, filling-more, filling-fits, filling-done}
+use Rattle.strips.proofs.fill_sums.Statement.{statement}
+use Rattle.strips.proofs.fill_sums.Tie as tie
+
+abbrev Inv-loop : tie.InvT-loop
+Inv-loop lengths sums₀ k₀ total₀ sums k total = Filling lengths sums₀ sums k total
+
+abbrev μ-loop : tie.MeasureT-loop
+μ-loop lengths sums₀ k₀ total₀ sums k total = length lengths - k
+
+slice-write-sums : tie.Need-slice-write-sums Inv-loop μ-loop
+slice-write-sums c = search needs
+
+loop-holds : tie.Need-loop-holds Inv-loop μ-loop
+loop-holds c = filling-first _ (now (c .args .sums)) (omega arith)
+
+mul-total : tie.Need-mul-total Inv-loop μ-loop
+mul-total c = search needs
+
+shared-slice-read-total : tie.Need-shared-slice-read-total Inv-loop μ-loop
+shared-slice-read-total c = search needs
+
+add-total : tie.Need-add-total Inv-loop μ-loop
+add-total c = omega (arith, filling-fits _ _ _ _ _ (c .before .before .loop .inv) (c .before .loop-test .taken) (c .before .before .before .pre .allowed) (c .before .before .before .pre .few))
+
+add-k : tie.Need-add-k Inv-loop μ-loop
+add-k c = search needs
+
+mul-sums : tie.Need-mul-sums Inv-loop μ-loop
+mul-sums c = omega (arith, c .before .before .before .pre, c .before .before .before .good)
+
+slice-write-sums-2 : tie.Need-slice-write-sums-2 Inv-loop μ-loop
+slice-write-sums-2 c = omega (arith, c .before .before .before .pre, c .before .before .loop .inv .len, length-set (now (c .before .before .before .args .sums)) 0 0)
+
+loop-less : tie.Need-loop-less Inv-loop μ-loop
+loop-less c = search needs
+
+loop-again : tie.Need-loop-again Inv-loop μ-loop
+loop-again c = filling-more _ _ _ _ _ (c .before .before .loop .inv) (c .before .loop-test .taken) (omega (arith, c .before .before .before .pre, length-set (now (c .before .before .before .args .sums)) 0 0))
+
+same-length : tie.Need-same-length Inv-loop μ-loop
+same-length c = c .before .loop .inv .len ∙ simp length-set
+
+returns : tie.Need-returns Inv-loop μ-loop
+returns c = filling-done _ _ _ _ _ (c .before .loop .inv) (c .loop-test .left)
+
+pub fill-sums-spec : {M : Type 1} → statement M
+fill-sums-spec =
+    tie.close
+    (tie.spec
+    Inv-loop
+    μ-loop
+    slice-write-sums
+    loop-holds
+    mul-total
+    shared-slice-read-total
+    add-total
+    add-k
+    mul-sums
+    slice-write-sums-2
+    loop-less
+    loop-again
+    same-length
+    returns)
