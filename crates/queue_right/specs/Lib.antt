@@ -3,3 +3,4 @@ pub mod Lines
 pub mod Turns
 pub mod Leaves
 pub mod Ready
+pub mod Count

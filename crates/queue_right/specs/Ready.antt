@@ -1,20 +1,21 @@
 -- What stands before each start and within it: the queue falls, every member is live and has a setting, and the next candidate
 -- is below them all. Assumes nothing but what each law states.
 use Prim.Native.Nat.{ℕ, zero, suc, _+_, _-_, _≤_, _<_}
-use mathlib.Core.Path.{_≡_, refl}
+use mathlib.Core.Path.{_≡_}
 use mathlib.Core.Logic.{⊎-elim}
 use mathlib.Core.List.{List, [], _∷_, reverse}
 use native.Mathlib.Omega.{arith}
 use lib.ListN.{length}
 use Rattle.laws.specs.Number.{split}
-use Rattle.laws.specs.Cost.{Cost, none, some, Has}
+use Rattle.laws.specs.Cost.{Has}
 use Rattle.laws.specs.Members.{Every, every-map, every-map2, every-reverse, Falls, Rises, pairs-reverse}
 use Rattle.paper.specs.declared.Limits.{Limits}
 use Rattle.paper.specs.Allowed.{Passed, ranges, limitsHold}
 use Rattle.paper.specs.Paragraph.{line, end, best}
+use Rattle.paper.specs.Moves.{Taken}
 use Rattle.paper.specs.QueueRules.{Text, Standing, textOf, dropLong, popWorse, popBridged, add, consider, candidates, dropWorse, settled, atStart, afterStarts, queueAt}
 use Rattle.queue_right.specs.Lines.{line-none, line-longer, line-shorter, line-joins, line-some}
-use Rattle.queue_right.specs.Turns.{dropLong-more, dropLong-stop, consider-long, consider-none, consider-add, candidates-more, candidates-stop}
+use Rattle.queue_right.specs.Turns.{dropLong-more, dropLong-stop, candidates-more, candidates-stop, consider-gives}
 use Rattle.queue_right.specs.Leaves.{dropLong-every, popWorse-every, popBridged-every, dropWorse-every, dropLong-pairs, popWorse-pairs, popBridged-pairs, dropWorse-pairs}
 
 -- a break k that has a setting, and whose line from start i is within the measure
@@ -67,15 +68,6 @@ module _ (t : Text) (i j : ℕ) (q : List ℕ) where
   unfolding add popped
   add-falls below h = pairs-reverse (λ (a b : ℕ). a < b) (j ∷ popped) (popped-every (λ (k : ℕ). j < k) below, popped-rises h)
 
--- what a candidate gives: it is passed, or added where its line is within lmax and it has a setting
-pub consider-gives : (t : Text) (i j : ℕ) (q : List ℕ) (P : List ℕ → Type 0) → P q →
-    (t .line i j ≤ t .limits .lmax → Has (t .best j) → P (add t i j q .stands)) → P (consider t i j q .stands)
-consider-gives t i j q P passed added = ⊎-elim (λ h. by-setting h (t .best j) refl) (λ h. rw (consider-long t i j q h) passed) (split (t .line i j) (t .limits .lmax))
-  where
-    by-setting : t .line i j ≤ t .limits .lmax → (c : Cost) → t .best j ≡ c → P (consider t i j q .stands)
-    by-setting h none e = rw (consider-none t i j q (λ g. rw e at g)) passed
-    by-setting h (some v) e = let g : Has (t .best j) = rw e tt in rw (consider-add t i j q h g) (added h g)
-
 -- ---- the rules on what is held
 module _ (l : Limits) (ws : List ℕ) where
   -- rule 1: who is live at the start before is low enough at i, and the front's line bounds the others
@@ -124,7 +116,7 @@ module _ (l : Limits) (ws : List ℕ) where
       pub consider-held : Held l ws i c (consider (textOf l ws) i j q .stands)
       unfolding textOf
       consider-held =
-          consider-gives (textOf l ws) i j q (Held l ws i c)
+          consider-gives (textOf l ws) i j q (λ (r : Taken (List ℕ)). Held l ws i c (r .stands))
           (record { near = omega (arith, considered-above); within = omega (arith, r .within); falls = r .falls; below = still-below; live = r .live })
           (λ high has. record {
             near = omega (arith, considered-above);

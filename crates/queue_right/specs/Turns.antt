@@ -1,14 +1,16 @@
 -- The queue rules one turn at a time: what each gives where its test holds, and where it fails. For any text. Assumes nothing.
 use Prim.Native.Nat.{ℕ, zero, suc, _+_, _≤_, _<_}
 use mathlib.Core.Path.{_≡_, refl, ap}
+use mathlib.Core.Logic.{⊎-elim}
 use mathlib.Core.Bool.{Bool, true, false, not, _||_}
 use mathlib.Core.List.{List, _∷_}
 use native.Mathlib.Omega.{arith}
 use lib.Dec.{ltb}
 use borrow.Author.Tests.{lt-ltb, le-ltb, le-leb, lt-leb}
+use Rattle.laws.specs.Number.{split}
 use Rattle.laws.specs.Cost.{Cost, none, some, Has, has?}
 use Rattle.paper.specs.declared.Kind.the-variants.{Pass, Drop, Pop}
-use Rattle.paper.specs.Moves.{move, still, moved, joined}
+use Rattle.paper.specs.Moves.{Taken, move, still, moved, joined}
 use Rattle.paper.specs.QueueRules.{Text, F, bridged, dropLong, popWorse, popBridged, add, consider, candidates, dropWorse}
 
 pub has-true : (c : Cost) → Has c → has? c ≡ true
@@ -87,3 +89,13 @@ module _ (t : Text) (j : ℕ) where
   pub popBridged-stop : (k l : ℕ) (q : List ℕ) → bridged t j k l ≡ false → popBridged t j (k ∷ l ∷ q) ≡ still (k ∷ l ∷ q)
   unfolding popBridged
   popBridged-stop k l q h = rw (h, popBridged)
+
+-- what a candidate gives: it is passed, or added where its line is within lmax and it has a setting
+pub consider-gives : (t : Text) (i j : ℕ) (q : List ℕ) (P : Taken (List ℕ) → Type 0) → P (moved (move Pass j) (still q)) →
+    (t .line i j ≤ t .limits .lmax → Has (t .best j) → P (add t i j q)) → P (consider t i j q)
+consider-gives t i j q P passed added =
+    ⊎-elim (λ h. by-setting h (t .best j) refl) (λ h. rw (consider-long t i j q h) passed) (split (t .line i j) (t .limits .lmax))
+  where
+    by-setting : t .line i j ≤ t .limits .lmax → (c : Cost) → t .best j ≡ c → P (consider t i j q)
+    by-setting h none e = rw (consider-none t i j q (λ g. rw e at g)) passed
+    by-setting h (some v) e = let g : Has (t .best j) = rw e tt in rw (consider-add t i j q h g) (added h g)
