@@ -1,0 +1,101 @@
+-- The queue rules one turn at a time: what each gives where its test holds, and where it fails. For any text. Assumes nothing.
+use Prim.Native.Nat.{ℕ, zero, suc, _+_, _≤_, _<_}
+use mathlib.Core.Path.{_≡_, refl, ap}
+use mathlib.Core.Logic.{⊎-elim}
+use mathlib.Core.Bool.{Bool, true, false, not, _||_}
+use mathlib.Core.List.{List, _∷_}
+use native.Mathlib.Omega.{arith}
+use lib.Dec.{ltb}
+use borrow.Author.Tests.{lt-ltb, le-ltb, le-leb, lt-leb}
+use Rattle.laws.specs.Number.{split}
+use Rattle.laws.specs.Cost.{Cost, none, some, Has, has?}
+use Rattle.paper.specs.declared.Kind.the-variants.{Pass, Drop, Pop}
+use Rattle.paper.specs.Moves.{Taken, move, still, moved, joined}
+use Rattle.paper.specs.QueueRules.{Text, F, bridged, dropLong, popWorse, popBridged, add, consider, candidates, dropWorse}
+
+pub has-true : (c : Cost) → Has c → has? c ≡ true
+has-true none h = absurd h
+has-true (some v) h = refl
+
+pub none-false : (c : Cost) → ¬ Has c → has? c ≡ false
+none-false none h = refl
+none-false (some v) h = absurd (h tt)
+
+module _ (t : Text) (i : ℕ) where
+  -- ---- rule 1
+  pub dropLong-more : (j : ℕ) (q : List ℕ) → t .limits .lmax < t .line i j → dropLong t i (j ∷ q) ≡ moved (move Drop j) (dropLong t i q)
+  unfolding dropLong
+  dropLong-more j q h = rw (lt-ltb (t .limits .lmax) (t .line i j) h, dropLong)
+
+  pub dropLong-stop : (j : ℕ) (q : List ℕ) → t .line i j ≤ t .limits .lmax → dropLong t i (j ∷ q) ≡ still (j ∷ q)
+  unfolding dropLong
+  dropLong-stop j q h = rw (le-ltb (t .limits .lmax) (t .line i j) h, dropLong)
+
+  -- ---- rule 2
+  pub popWorse-more : (j k : ℕ) (q : List ℕ) → F t i j ≤ F t i k → popWorse t i j (k ∷ q) ≡ moved (move Pop k) (popWorse t i j q)
+  unfolding popWorse
+  popWorse-more j k q h = rw (le-leb (F t i j) (F t i k) h, popWorse)
+
+  pub popWorse-stop : (j k : ℕ) (q : List ℕ) → F t i k < F t i j → popWorse t i j (k ∷ q) ≡ still (k ∷ q)
+  unfolding popWorse
+  popWorse-stop j k q h = rw (lt-leb (F t i j) (F t i k) h, popWorse)
+
+  consider-is : (j : ℕ) (q : List ℕ) (b : Bool) → (ltb (t .limits .lmax) (t .line i j) || not (has? (t .best j))) ≡ b →
+      consider t i j q ≡ elim b [ true ↦ moved (move Pass j) (still q) | false ↦ add t i j q ]
+  unfolding consider
+  consider-is j q b e = ap (λ (c : Bool). elim c [ true ↦ moved (move Pass j) (still q) | false ↦ add t i j q ]) e
+
+  pub consider-long : (j : ℕ) (q : List ℕ) → t .limits .lmax < t .line i j → consider t i j q ≡ moved (move Pass j) (still q)
+  consider-long j q h = consider-is j q true (rw (lt-ltb (t .limits .lmax) (t .line i j) h))
+
+  pub consider-none : (j : ℕ) (q : List ℕ) → ¬ Has (t .best j) → consider t i j q ≡ moved (move Pass j) (still q)
+  consider-none j q h = consider-is j q true (rw (none-false (t .best j) h) (either (ltb (t .limits .lmax) (t .line i j))))
+    where
+      either : (b : Bool) → (b || true) ≡ true
+      either true = refl
+      either false = refl
+
+  pub consider-add : (j : ℕ) (q : List ℕ) → t .line i j ≤ t .limits .lmax → Has (t .best j) → consider t i j q ≡ add t i j q
+  consider-add j q h has = consider-is j q false (rw (le-ltb (t .limits .lmax) (t .line i j) h, has-true (t .best j) has))
+
+  candidates-suc : (c : ℕ) (q : List ℕ) → t .limits .lmin ≤ t .line i (suc c) →
+      candidates t i (suc c) q ≡ joined (consider t i (suc c) q) (candidates t i c)
+  unfolding candidates
+  candidates-suc c q h = rw (le-leb (t .limits .lmin) (t .line i (suc c)) h, candidates)
+
+  pub candidates-more : (c j : ℕ) (q : List ℕ) → c + 1 ≡ j → t .limits .lmin ≤ t .line i j →
+      candidates t i j q ≡ joined (consider t i j q) (candidates t i c)
+  candidates-more c j q e h = let g : j ≡ suc c = omega arith in rw g (candidates-suc c q (rw g at h))
+
+  pub candidates-stop : (j : ℕ) (q : List ℕ) → t .line i j < t .limits .lmin → candidates t i j q ≡ still (record { queue = q; candidate = j })
+  unfolding candidates
+  candidates-stop zero q h = refl
+  candidates-stop (suc c) q h = rw (lt-leb (t .limits .lmin) (t .line i (suc c)) h, candidates)
+
+  -- ---- rule 3
+  pub dropWorse-more : (j k : ℕ) (q : List ℕ) → F t i k ≤ F t i j → dropWorse t i (j ∷ k ∷ q) ≡ moved (move Drop j) (dropWorse t i (k ∷ q))
+  unfolding dropWorse
+  dropWorse-more j k q h = rw (le-leb (F t i k) (F t i j) h, dropWorse)
+
+  pub dropWorse-stop : (j k : ℕ) (q : List ℕ) → F t i j < F t i k → dropWorse t i (j ∷ k ∷ q) ≡ still (j ∷ k ∷ q)
+  unfolding dropWorse
+  dropWorse-stop j k q h = rw (lt-leb (F t i k) (F t i j) h, dropWorse)
+
+module _ (t : Text) (j : ℕ) where
+  pub popBridged-more : (k l : ℕ) (q : List ℕ) → bridged t j k l ≡ true → popBridged t j (k ∷ l ∷ q) ≡ moved (move Pop k) (popBridged t j (l ∷ q))
+  unfolding popBridged
+  popBridged-more k l q h = rw (h, popBridged)
+
+  pub popBridged-stop : (k l : ℕ) (q : List ℕ) → bridged t j k l ≡ false → popBridged t j (k ∷ l ∷ q) ≡ still (k ∷ l ∷ q)
+  unfolding popBridged
+  popBridged-stop k l q h = rw (h, popBridged)
+
+-- what a candidate gives: it is passed, or added where its line is within lmax and it has a setting
+pub consider-gives : (t : Text) (i j : ℕ) (q : List ℕ) (P : Taken (List ℕ) → Type 0) → P (moved (move Pass j) (still q)) →
+    (t .line i j ≤ t .limits .lmax → Has (t .best j) → P (add t i j q)) → P (consider t i j q)
+consider-gives t i j q P passed added =
+    ⊎-elim (λ h. by-setting h (t .best j) refl) (λ h. rw (consider-long t i j q h) passed) (split (t .line i j) (t .limits .lmax))
+  where
+    by-setting : t .line i j ≤ t .limits .lmax → (c : Cost) → t .best j ≡ c → P (consider t i j q)
+    by-setting h none e = rw (consider-none t i j q (λ g. rw e at g)) passed
+    by-setting h (some v) e = let g : Has (t .best j) = rw e tt in rw (consider-add t i j q h g) (added h g)
