@@ -1,0 +1,81 @@
+-- What the functions of the queue rules ask of their callers, and what each leaves. The queue stands in its strip from place f up
+-- to place e, front to rear. Assumes nothing.
+use Prim.Native.Nat.{ℕ, _+_, _-_, _*_, _≤_, _<_}
+use mathlib.Core.Path.{_≡_}
+use mathlib.Core.List.{List, reverse}
+use lib.ListN.{length, getD}
+use lib.Seq.{slice}
+use Rattle.paper.specs.declared.Limits.{Limits}
+use Rattle.paper.specs.Allowed.{Ranges}
+use Rattle.paper.specs.Moves.{Taken}
+use Rattle.lines.specs.Held.{span}
+use Rattle.lines.specs.Asks.{Rising, Inside, Numbered, Three}
+use Rattle.strips.specs.Running.{written}
+
+-- ---- asked
+-- the strips hold a text: sums and bests of as many indices
+pub record Words (l : Limits) (S B : List ℕ) : Type 0 where
+  pub ranges : Ranges l
+  pub few : length S ≤ 4097
+  pub same : length B ≡ length S
+  pub rising : Rising S
+
+-- k is a break after start i
+pub record Break (S : List ℕ) (i k : ℕ) : Type 0 where
+  pub first : 1 ≤ i
+  pub above : i < k
+  pub within : k ≤ length S
+
+-- and its line is inside the measure, and it has a setting
+pub record Member (l : Limits) (S B : List ℕ) (i k : ℕ) : Type 0 where
+  pub break : Break S i k
+  pub measure : Inside l (span S i k)
+  pub number : Numbered B k
+
+-- the queue's places in its strip
+pub record Places (Q : List ℕ) (f e room : ℕ) : Type 0 where
+  pub order : f ≤ e
+  pub standing : e ≤ length Q
+  pub short : length Q ≤ 4096
+  pub enough : e - f ≤ room
+
+-- what holds of each entry of the queue
+abbrev pub Each : (ℕ → Type 0) → List ℕ → ℕ → ℕ → Type 0
+Each P Q f e = (a : ℕ) → f ≤ a → a < e → P (getD Q a 0)
+
+pub record DropLongAsks (l : Limits) (i : ℕ) (S Q : List ℕ) (f e room : ℕ) : Type 0 where
+  pub few : length S ≤ 4097
+  pub rising : Rising S
+  pub places : Places Q f e room
+  pub each : Each (Break S i) Q f e
+
+pub record DropWorseAsks (l : Limits) (i : ℕ) (S B Q : List ℕ) (f e room : ℕ) : Type 0 where
+  pub words : Words l S B
+  pub places : Places Q f e room
+  pub each : Each (Member l S B i) Q f e
+
+pub record PopWorseAsks (l : Limits) (i j : ℕ) (S B Q : List ℕ) (f e room : ℕ) : Type 0 where
+  pub words : Words l S B
+  pub places : Places Q f e room
+  pub each : Each (Member l S B i) Q f e
+  pub new : Member l S B i j
+
+pub record PopBridgedAsks (l : Limits) (j : ℕ) (S B Q : List ℕ) (f e room : ℕ) : Type 0 where
+  pub few : length S ≤ 4097
+  pub places : Places Q f e room
+  pub threes : (a : ℕ) → f ≤ a → a + 1 < e → Three l S B j (getD Q (a + 1) 0) (getD Q a 0)
+
+-- ---- left
+-- a rule dropped the front up to place r
+pub record Dropped (rule : Taken (List ℕ)) (Q : List ℕ) (f e : ℕ) (m₀ : List ℕ) (r : ℕ) (m : List ℕ) : Type 0 where
+  pub moves : m ≡ written (rule .moves) m₀
+  pub count : r ≡ f + length (rule .moves)
+  pub stands : rule .stands ≡ slice r e Q
+  pub within : r ≤ e
+
+-- a rule popped the rear down to place r
+pub record Popped (rule : Taken (List ℕ)) (Q : List ℕ) (f e : ℕ) (m₀ : List ℕ) (r : ℕ) (m : List ℕ) : Type 0 where
+  pub moves : m ≡ written (rule .moves) m₀
+  pub count : e ≡ r + length (rule .moves)
+  pub stands : rule .stands ≡ reverse (slice f r Q)
+  pub within : f ≤ r

@@ -1,0 +1,154 @@
+// The queue rules of document 01, a start at a time. The queue stands in its strip from `front` up to `end`. Workshop parts: they
+// ask what their callers meet.
+use lines::bridged;
+use lines::line;
+use lines::through;
+use lines::wide;
+use paper::Kind;
+use paper::Limits;
+use paper::Move;
+use strips::put;
+ghost use lib.ListN.{length};
+ghost use lib.Seq.{slice};
+ghost use Prim.Native.Nat.{ℕ};
+ghost use mathlib.Core.List.{List, reverse};
+ghost use Rattle.paper.specs.QueueRules.{dropLong, popWorse, popBridged, dropWorse};
+ghost use Rattle.lines.specs.Held.{textIn};
+ghost use Rattle.queue.specs.Asks.{DropLongAsks, DropWorseAsks, PopWorseAsks, PopBridgedAsks, Dropped, Popped};
+
+// "1. While the front has Line > lmax: Drop it." Answers the place of the front.
+fn drop_long(
+    l: Limits,
+    i: usize,
+    sums: &[u32],
+    queue: &[u32],
+    front: usize,
+    end: usize,
+    moves: &mut [u32],
+) -> usize
+    requires { ⌜ DropLongAsks l i (now sums) (now queue) front end (length (now moves)) ⌝ }
+    ensures { λ r. ⌜ ((B : List ℕ) → Dropped (dropLong (textIn l (now (sums .entry)) B) i (slice front end (now (queue .entry)))) (now (queue .entry)) front end (now (moves .entry)) r (now (moves .exit))) ⌝ }
+{
+    let mut at = front;
+    while at < end {
+        let j = queue[at];
+        if line(sums, i, wide(j)) <= l.lmax {
+            break;
+        }
+        put(
+            moves,
+            at - front,
+            Move {
+                kind: Kind::Drop,
+                index: j,
+            },
+        );
+        at += 1;
+    }
+    at
+}
+
+// "Pop the rear while F(i, candidate) ≤ F(i, rear)". Answers the place behind the rear.
+fn pop_worse(
+    l: Limits,
+    i: usize,
+    sums: &[u32],
+    best: &[u64],
+    queue: &[u32],
+    front: usize,
+    end: usize,
+    j: usize,
+    moves: &mut [u32],
+) -> usize
+    requires { ⌜ PopWorseAsks l i j (now sums) (now best) (now queue) front end (length (now moves)) ⌝ }
+    ensures { λ r. ⌜ Popped (popWorse (textIn l (now (sums .entry)) (now (best .entry))) i j (reverse (slice front end (now (queue .entry))))) (now (queue .entry)) front end (now (moves .entry)) r (now (moves .exit)) ⌝ }
+{
+    let new = through(l, sums, best, i, j);
+    let mut at = end;
+    while front < at {
+        let k = queue[at - 1];
+        if through(l, sums, best, i, wide(k)) < new {
+            break;
+        }
+        put(
+            moves,
+            end - at,
+            Move {
+                kind: Kind::Pop,
+                index: k,
+            },
+        );
+        at -= 1;
+    }
+    at
+}
+
+// "Pop the rear while two or more stand and the rear is bridged". Answers the place behind the rear.
+fn pop_bridged(
+    l: Limits,
+    sums: &[u32],
+    best: &[u64],
+    queue: &[u32],
+    front: usize,
+    end: usize,
+    j: usize,
+    moves: &mut [u32],
+) -> usize
+    requires { ⌜ PopBridgedAsks l j (now sums) (now best) (now queue) front end (length (now moves)) ⌝ }
+    ensures { λ r. ⌜ Popped (popBridged (textIn l (now (sums .entry)) (now (best .entry))) j (reverse (slice front end (now (queue .entry))))) (now (queue .entry)) front end (now (moves .entry)) r (now (moves .exit)) ⌝ }
+{
+    let mut at = end;
+    while front + 1 < at {
+        let k = queue[at - 1];
+        let n = queue[at - 2];
+        if !bridged(l, sums, best, j, wide(k), wide(n)) {
+            break;
+        }
+        put(
+            moves,
+            end - at,
+            Move {
+                kind: Kind::Pop,
+                index: k,
+            },
+        );
+        at -= 1;
+    }
+    at
+}
+
+// "3. While two or more stand and F of the second is ≤ F of the front: Drop the front." Answers the place of the front.
+fn drop_worse(
+    l: Limits,
+    i: usize,
+    sums: &[u32],
+    best: &[u64],
+    queue: &[u32],
+    front: usize,
+    end: usize,
+    moves: &mut [u32],
+) -> usize
+    requires { ⌜ DropWorseAsks l i (now sums) (now best) (now queue) front end (length (now moves)) ⌝ }
+    ensures { λ r. ⌜ Dropped (dropWorse (textIn l (now (sums .entry)) (now (best .entry))) i (slice front end (now (queue .entry)))) (now (queue .entry)) front end (now (moves .entry)) r (now (moves .exit)) ⌝ }
+{
+    let mut at = front;
+    while at + 1 < end {
+        let j = queue[at];
+        let k = queue[at + 1];
+        let first = through(l, sums, best, i, wide(j));
+        let second = through(l, sums, best, i, wide(k));
+        if first < second {
+            break;
+        }
+        put(
+            moves,
+            at - front,
+            Move {
+                kind: Kind::Drop,
+                index: j,
+            },
+        );
+        at += 1;
+    }
+    at
+}
