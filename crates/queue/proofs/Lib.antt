@@ -1,3 +1,5 @@
 pub mod Ends
 pub mod Turns
 pub mod Members
+pub mod Adding
+pub mod Passing

@@ -1,13 +1,17 @@
 -- What the functions of the queue rules ask of their callers, and what each leaves. The queue stands in its strip from place f up
 -- to place e, front to rear. Assumes nothing.
-use Prim.Native.Nat.{ℕ, _+_, _-_, _*_, _≤_, _<_}
+use Prim.Native.Nat.{ℕ, _+_, _-_, _*_, _^_, _≤_, _<_}
 use mathlib.Core.Path.{_≡_}
-use mathlib.Core.List.{List, reverse}
+use mathlib.Core.Logic.{_⊎_}
+use mathlib.Core.List.{List, [], _∷_, reverse}
 use lib.ListN.{length, getD}
 use lib.Seq.{slice}
+use Rattle.laws.specs.Members.{Every, Falls}
 use Rattle.paper.specs.declared.Limits.{Limits}
 use Rattle.paper.specs.Allowed.{Ranges}
-use Rattle.paper.specs.Moves.{Taken}
+use Rattle.paper.specs.declared.Kind.the-variants.{Pass}
+use Rattle.paper.specs.Moves.{Taken, move}
+use Rattle.paper.specs.QueueRules.{Standing}
 use Rattle.lines.specs.Held.{span}
 use Rattle.lines.specs.Asks.{Rising, Inside, Numbered, Three}
 use Rattle.strips.specs.Running.{written}
@@ -79,3 +83,73 @@ pub record Popped (rule : Taken (List ℕ)) (Q : List ℕ) (f e : ℕ) (m₀ : L
   pub count : e ≡ r + length (rule .moves)
   pub stands : rule .stands ≡ reverse (slice f r Q)
   pub within : f ≤ r
+
+-- ---- within a start
+-- after rule 1 of start i: who stands is inside the measure, the front has the largest index, the candidate c is below them all, and
+-- the strip has a place for each candidate that is left
+pub record Queued (l : Limits) (S B : List ℕ) (i : ℕ) (Q : List ℕ) (f e c : ℕ) : Type 0 where
+  pub order : f ≤ e
+  pub standing : e ≤ length Q
+  pub short : length Q ≤ 4096
+  pub each : Every (Member l S B i) (slice f e Q)
+  pub falls : Falls (slice f e Q)
+  pub below : Every (λ (k : ℕ). c < k) (slice f e Q)
+  pub near : i ≤ c
+  pub within : c ≤ length S
+  pub place : e + c ≤ length Q + 1
+
+-- the best of each index after start i is a number, or none
+abbrev pub Bests : List ℕ → ℕ → Type 0
+Bests B i = (k : ℕ) → i < k → k ≤ length B → (getD B (k - 1) 0 ≡ 2 ^ 64 - 1) ⊎ (getD B (k - 1) 0 < 2 ^ 40)
+
+-- a candidate j whose line is inside the measure, and room for it
+pub record AddAsks (l : Limits) (i j : ℕ) (S B Q : List ℕ) (f e room : ℕ) : Type 0 where
+  pub words : Words l S B
+  pub queued : Queued l S B i Q f e j
+  pub new : Member l S B i j
+  pub enough : e - f + 1 ≤ room
+
+-- a candidate whose line is at least lmin
+pub record ConsiderAsks (l : Limits) (i j : ℕ) (S B Q : List ℕ) (f e room : ℕ) : Type 0 where
+  pub words : Words l S B
+  pub bests : Bests B i
+  pub queued : Queued l S B i Q f e j
+  pub first : 1 ≤ i
+  pub reach : l .lmin ≤ span S i j
+  pub enough : e - f + 1 ≤ room
+
+pub record CandidatesAsks (l : Limits) (i : ℕ) (S B Q : List ℕ) (f e c room : ℕ) : Type 0 where
+  pub words : Words l S B
+  pub bests : Bests B i
+  pub queued : Queued l S B i Q f e c
+  pub first : 1 ≤ i
+  pub enough : e - f + 2 * (c - 1) ≤ room
+
+-- before start i what stands is queued at the start before
+pub record StartAsks (l : Limits) (i : ℕ) (S B Q : List ℕ) (f e c room : ℕ) : Type 0 where
+  pub words : Words l S B
+  pub bests : Bests B i
+  pub queued : Queued l S B (i + 1) Q f e c
+  pub first : 1 ≤ i
+  pub enough : e - f + 2 * (c - 1) ≤ room
+
+-- the candidate j was passed
+pub record Passes (j e : ℕ) (m₀ : List ℕ) (r taken : ℕ) (m : List ℕ) : Type 0 where
+  pub moves : m ≡ written (move Pass j ∷ []) m₀
+  pub count : taken ≡ 1
+  pub stays : r ≡ e
+
+-- a candidate was passed or added: the queue ends at place r in the strip Q′
+pub record Added (rule : Taken (List ℕ)) (Q : List ℕ) (f e : ℕ) (m₀ : List ℕ) (r taken : ℕ) (Q′ m : List ℕ) : Type 0 where
+  pub moves : m ≡ written (rule .moves) m₀
+  pub count : taken ≡ length (rule .moves)
+  pub stands : rule .stands ≡ slice f r Q′
+  pub low : f ≤ r
+  pub high : r ≤ e + 1
+  pub same : length Q′ ≡ length Q
+
+-- rule 2 came to the candidate c, or a start's rules to what stands from place f on
+pub record Settled (rule : Taken Standing) (m₀ : List ℕ) (f e c taken : ℕ) (Q m : List ℕ) : Type 0 where
+  pub moves : m ≡ written (rule .moves) m₀
+  pub count : taken ≡ length (rule .moves)
+  pub stands : rule .stands ≡ record { queue = slice f e Q; candidate = c }

@@ -10,11 +10,25 @@ use paper::Move;
 use strips::put;
 ghost use lib.ListN.{length};
 ghost use lib.Seq.{slice};
-ghost use Prim.Native.Nat.{ℕ};
+ghost use Prim.Native.Nat.{ℕ, _≤_};
 ghost use mathlib.Core.List.{List, reverse};
-ghost use Rattle.paper.specs.QueueRules.{dropLong, popWorse, popBridged, dropWorse};
+ghost use Rattle.paper.specs.QueueRules.{dropLong, popWorse, popBridged, add as isAdd, dropWorse};
 ghost use Rattle.lines.specs.Held.{textIn};
-ghost use Rattle.queue.specs.Asks.{DropLongAsks, DropWorseAsks, PopWorseAsks, PopBridgedAsks, Dropped, Popped};
+ghost use Rattle.queue.specs.Asks.{DropLongAsks, DropWorseAsks, PopWorseAsks, PopBridgedAsks, AddAsks, Dropped, Popped, Passes, Added};
+
+// The place behind the rear, and the moves taken.
+pub struct Rear {
+    pub end: usize,
+    pub moves: usize,
+}
+
+// Where the queue stands in its strip, the next candidate, and the moves taken.
+pub struct Queue {
+    pub front: usize,
+    pub end: usize,
+    pub candidate: usize,
+    pub moves: usize,
+}
 
 // "1. While the front has Line > lmax: Drop it." Answers the place of the front.
 fn drop_long(
@@ -151,4 +165,53 @@ fn drop_worse(
         at += 1;
     }
     at
+}
+
+// A candidate is passed. It leaves the queue as it is.
+fn pass(j: usize, end: usize, moves: &mut [u32]) -> Rear
+    requires { ⌜ (1 ≤ length (now moves)) × (j ≤ 4097) ⌝ }
+    ensures { λ r. ⌜ Passes j end (now (moves .entry)) (r .end) (r .moves) (now (moves .exit)) ⌝ }
+{
+    put(
+        moves,
+        0,
+        Move {
+            kind: Kind::Pass,
+            index: j as u32,
+        },
+    );
+    Rear { end, moves: 1 }
+}
+
+// The rear is popped twice over, and the candidate added.
+fn add(
+    l: Limits,
+    i: usize,
+    sums: &[u32],
+    best: &[u64],
+    queue: &mut [u32],
+    front: usize,
+    end: usize,
+    j: usize,
+    moves: &mut [u32],
+) -> Rear
+    requires { ⌜ AddAsks l i j (now sums) (now best) (now queue) front end (length (now moves)) ⌝ }
+    ensures { λ r. ⌜ Added (isAdd (textIn l (now (sums .entry)) (now (best .entry))) i j (slice front end (now (queue .entry)))) (now (queue .entry)) front end (now (moves .entry)) (r .end) (r .moves) (now (queue .exit)) (now (moves .exit)) ⌝ }
+{
+    let worse = pop_worse(l, i, sums, best, queue, front, end, j, moves);
+    let taken = end - worse;
+    let rear = pop_bridged(l, sums, best, queue, front, worse, j, &mut moves[taken..]);
+    queue[rear] = j as u32;
+    put(
+        moves,
+        end - rear,
+        Move {
+            kind: Kind::Add,
+            index: j as u32,
+        },
+    );
+    Rear {
+        end: rear + 1,
+        moves: end - rear + 1,
+    }
 }

@@ -42,6 +42,11 @@ module _ {A : Type 0} (whole : Taken A) (m₀ : List ℕ) where
   pub running-first : Running whole whole m₀ m₀ 0
   running-first = record { done = []; is = sym (over-nil m₀); count = refl; so-far = refl; fits = omega arith }
 
+  -- another rule, which comes first in the whole, was lent the whole strip
+  pub running-rule : {B : Type 0} (s : Taken B) (f : B → Taken A) (m : List ℕ) (taken : ℕ) → whole ≡ joined s f → m ≡ written (s .moves) m₀ →
+      taken ≡ length (s .moves) → taken ≤ length m₀ → Running whole (f (s .stands)) m₀ m taken
+  running-rule s f m taken e is count room = record { done = s .moves; is = is; count = count; so-far = e; fits = room }
+
   module _ (m : List ℕ) (taken : ℕ) where
     pub running-length : {rest : Taken A} → Running whole rest m₀ m taken → length m ≡ length m₀
     running-length r = ap length (r .is) ∙ length-over (map code (r .done)) m₀ (omega (arith, r .fits, r .count, length-codes (r .done)))
@@ -89,3 +94,9 @@ module _ {A : Type 0} (whole : Taken A) (m₀ : List ℕ) where
           count = r .count ∙ ap length (sym e);
           stands = ap (λ (t : Taken A). t .stands) (r .so-far);
         }
+
+-- one rule after the other, and then a third
+pub joined-assoc : {A B C : Type 0} (r : Taken A) (f : A → Taken B) (g : B → Taken C) → joined (joined r f) g ≡ joined r (λ a. joined (f a) g)
+joined-assoc r f g =
+    ap (λ (l : List Move). record { moves = l; stands = g (f (r .stands) .stands) .stands })
+    (append-assoc (r .moves) (f (r .stands) .moves) (g (f (r .stands) .stands) .moves))
