@@ -4,3 +4,5 @@ pub mod Turns
 pub mod Leaves
 pub mod Ready
 pub mod Count
+pub mod Curves
+pub mod Sound

@@ -90,12 +90,16 @@ module _ (t : Text) (j : ℕ) where
   unfolding popBridged
   popBridged-stop k l q h = rw (h, popBridged)
 
--- what a candidate gives: it is passed, or added where its line is within lmax and it has a setting
-pub consider-gives : (t : Text) (i j : ℕ) (q : List ℕ) (P : Taken (List ℕ) → Type 0) → P (moved (move Pass j) (still q)) →
+-- what a candidate gives: it is added where its line is within lmax and it has a setting, and otherwise passed
+pub consider-gives : (t : Text) (i j : ℕ) (q : List ℕ) (P : Taken (List ℕ) → Type 0) →
+    ((t .line i j ≤ t .limits .lmax → ¬ Has (t .best j)) → P (moved (move Pass j) (still q))) →
     (t .line i j ≤ t .limits .lmax → Has (t .best j) → P (add t i j q)) → P (consider t i j q)
 consider-gives t i j q P passed added =
-    ⊎-elim (λ h. by-setting h (t .best j) refl) (λ h. rw (consider-long t i j q h) passed) (split (t .line i j) (t .limits .lmax))
+    ⊎-elim
+    (λ h. by-setting h (t .best j) refl)
+    (λ h. rw (consider-long t i j q h) (passed (λ g. absurd (omega arith))))
+    (split (t .line i j) (t .limits .lmax))
   where
     by-setting : t .line i j ≤ t .limits .lmax → (c : Cost) → t .best j ≡ c → P (consider t i j q)
-    by-setting h none e = rw (consider-none t i j q (λ g. rw e at g)) passed
+    by-setting h none e = let g : ¬ Has (t .best j) = λ g. rw e at g in rw (consider-none t i j q g) (passed (λ k. g))
     by-setting h (some v) e = let g : Has (t .best j) = rw e tt in rw (consider-add t i j q h g) (added h g)
