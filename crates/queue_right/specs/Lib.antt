@@ -6,3 +6,4 @@ pub mod Ready
 pub mod Count
 pub mod Curves
 pub mod Sound
+pub mod Front
