@@ -9,14 +9,14 @@ use lib.Dec.{T, leb}
 use borrow.Author.Tests.{leb-true, le-leb}
 use Rattle.laws.specs.Number.{all}
 use Rattle.laws.specs.Cost.{Has, value}
-use Rattle.laws.specs.Square.{sqd, sqd-line}
-use Rattle.laws.specs.Bridge.{curve, monotone, Edge, Chord, edge-side, Bridged, bridged-gives, not-bridged-gives}
+use Rattle.laws.specs.Square.{sqd-line}
+use Rattle.laws.specs.Bridge.{curve, monotone, edge-side, Bridged, bridged-gives, not-bridged-gives}
 use Rattle.laws.specs.Queue.{Laws, Ordered, Useless}
 use Rattle.paper.specs.declared.Limits.{Limits}
 use Rattle.paper.specs.Allowed.{lengthHolds}
 use Rattle.paper.specs.Paragraph.{line, end, best, penalty}
-use Rattle.paper.specs.QueueRules.{Text, textOf, F, edge, chord, bridged}
-use Rattle.paper.specs.Scale.{upTo, upTo-le, upTo-rise, line-scale, line-is}
+use Rattle.paper.specs.QueueRules.{textOf, F, edge, chord, bridged}
+use Rattle.paper.specs.Scale.{upTo, upTo-le, upTo-rise, line-scale}
 
 -- where a line from start i begins, and where a line that ends before j ends: the sum of the words before
 unfoldable pub at : List ℕ → ℕ → ℕ

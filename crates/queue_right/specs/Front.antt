@@ -16,15 +16,15 @@ use Rattle.laws.specs.Setting.{Choice, through}
 use Rattle.laws.specs.Table as Table
 use Rattle.laws.specs.Chosen.{Next, next, next-is, next-none, next-unique}
 use Rattle.laws.specs.Members.{Every, every-map}
-use Rattle.laws.specs.Queue.{Beats, Leads, front-least, empty-none}
+use Rattle.laws.specs.Queue.{Beats, front-least, empty-none}
 use Rattle.paper.specs.declared.Limits.{Limits}
 use Rattle.paper.specs.Allowed.{Passed, Ranges, ranges, limitsHold}
 use Rattle.paper.specs.Paragraph.{line, end, admissible, penalty, charge, paragraph, best, chosenNext}
 use Rattle.paper.specs.QueueRules.{textOf, F, queueAt, front}
 use Rattle.queue_right.specs.Lines.{line-before}
-use Rattle.queue_right.specs.Ready.{Live, Held, held-at}
+use Rattle.queue_right.specs.Ready.{Live, held-at}
 use Rattle.queue_right.specs.Curves.{at, at-line, Break, G, F-is}
-use Rattle.queue_right.specs.Sound.{Sound, sound-at}
+use Rattle.queue_right.specs.Sound.{sound-at}
 
 -- what the queue says of start i: the front gives the best and is the chosen next; where none stands there is no setting
 abbrev pub Chooses : Limits → List ℕ → ℕ → List ℕ → Type 0

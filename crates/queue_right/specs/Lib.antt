@@ -7,3 +7,4 @@ pub mod Count
 pub mod Curves
 pub mod Sound
 pub mod Front
+pub mod Inside

@@ -7,19 +7,17 @@ use mathlib.Core.List.{List, [], _∷_, reverse}
 use native.Mathlib.Omega.{arith}
 use lib.ListN.{length}
 use Rattle.laws.specs.Number.{split, tested}
-use Rattle.laws.specs.Cost.{Cost, none, some, Has}
-use Rattle.laws.specs.Members.{Every, every-reverse, Rises, Threes}
+use Rattle.laws.specs.Members.{Every, every-reverse, Threes}
 use Rattle.laws.specs.Queue.{Ordered, Leads, Queue, Adding, nothing, later, pass, drop-long, come, drop-worse, pop-worse, pop-useless}
 use Rattle.laws.specs.Queue as Laws
 use Rattle.paper.specs.declared.Limits.{Limits}
-use Rattle.paper.specs.Allowed.{Passed, Ranges, ranges, limitsHold}
+use Rattle.paper.specs.Allowed.{Passed, ranges, limitsHold}
 use Rattle.paper.specs.Moves.{Taken}
-use Rattle.paper.specs.Paragraph.{line, end, best}
+use Rattle.paper.specs.Paragraph.{line}
 use Rattle.paper.specs.QueueRules.{Standing, textOf, F, bridged, dropLong, popWorse, popBridged, add, consider, candidates, dropWorse, settled, atStart, afterStarts, queueAt}
-use Rattle.queue_right.specs.Lines.{line-joins}
-use Rattle.queue_right.specs.Turns.{dropLong-more, dropLong-stop, popWorse-more, popWorse-stop, popBridged-more, popBridged-stop, consider-long, consider-none, consider-add, candidates-more, candidates-stop, dropWorse-more, dropWorse-stop, consider-gives}
+use Rattle.queue_right.specs.Turns.{dropLong-more, dropLong-stop, popWorse-more, popWorse-stop, popBridged-more, popBridged-stop, candidates-more, candidates-stop, dropWorse-more, dropWorse-stop, consider-gives}
 use Rattle.queue_right.specs.Leaves.{popWorse-every}
-use Rattle.queue_right.specs.Ready.{Live, live-apart, Held, Ready, dropLong-held, considered-live, considered-above, consider-held, candidates-held, atStart-ready, ready, ready-at}
+use Rattle.queue_right.specs.Ready.{Live, live-apart, Held, Ready, dropLong-held, considered-live, consider-held, candidates-held, ready, ready-at}
 use Rattle.queue_right.specs.Curves.{at, at-le, at-line, Break, G, F-is, laws, bridged-useless, bridged-ordered}
 
 -- the queue at start i, with every candidate from lo on considered

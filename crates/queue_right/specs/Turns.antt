@@ -55,6 +55,9 @@ module _ (t : Text) (i : ℕ) where
       either true = refl
       either false = refl
 
+  pub consider-pass : (j : ℕ) (q : List ℕ) → (t .line i j ≤ t .limits .lmax → ¬ Has (t .best j)) → consider t i j q ≡ moved (move Pass j) (still q)
+  consider-pass j q h = ⊎-elim (λ g. consider-none j q (h g)) (λ g. consider-long j q g) (split (t .line i j) (t .limits .lmax))
+
   pub consider-add : (j : ℕ) (q : List ℕ) → t .line i j ≤ t .limits .lmax → Has (t .best j) → consider t i j q ≡ add t i j q
   consider-add j q h has = consider-is j q false (rw (le-ltb (t .limits .lmax) (t .line i j) h, has-true (t .best j) has))
 
