@@ -44,36 +44,57 @@ Leads F x [] = Unit {0}
 Leads F x (h ∷ []) = Unit {0}
 Leads F x (h ∷ s ∷ q) = F h x < F s x
 
-module _ (F : ℕ → ℕ → ℕ) (E : ℕ → ℕ) (m : ℕ) (Ok : ℕ → Type 0) where
-  -- k is live at y, and beats c there
-  abbrev pub Wins : ℕ → ℕ → ℕ → Type 0
-  Wins y c k = Live E m k y × Beats F y k c
+-- k is live at y, and beats c there
+abbrev pub Wins : (ℕ → ℕ → ℕ) → (ℕ → ℕ) → ℕ → ℕ → ℕ → ℕ → Type 0
+Wins F E m y c k = Live E m k y × Beats F y k c
 
-  -- at x, with every candidate from lo on considered; listed from front to rear
-  pub record Queue (x lo : ℕ) (q : List ℕ) : Type 0 where
-    pub falls : Falls q
-    pub ok : Every Ok q
-    pub order : Threes (λ (a b c : ℕ). Ordered F E m x c b a) q
-    pub above : Every (λ (k : ℕ). lo ≤ k) q
-    pub cover : (y c : ℕ) → y ≤ x → lo ≤ c → Ok c → Live E m c y → Any (Wins y c) q
+-- at x, with every candidate from lo on considered; listed from front to rear
+pub record Queue (F : ℕ → ℕ → ℕ) (E : ℕ → ℕ) (m : ℕ) (Ok : ℕ → Type 0) (x lo : ℕ) (q : List ℕ) : Type 0 where
+  pub falls : Falls q
+  pub ok : Every Ok q
+  pub order : Threes (λ (a b c : ℕ). Ordered F E m x c b a) q
+  pub above : Every (λ (k : ℕ). lo ≤ k) q
+  pub cover : (y c : ℕ) → y ≤ x → lo ≤ c → Ok c → Live E m c y → Any (Wins F E m y c) q
 
-  -- the same while the candidate n waits to be added behind the rear; listed from rear to front
-  pub record Adding (x n : ℕ) (q : List ℕ) : Type 0 where
-    pub rises : Rises q
-    pub ok : Every Ok q
-    pub order : Threes (Ordered F E m x) q
-    pub above : Every (λ (k : ℕ). n < k) q
-    pub new : Ok n
-    pub cover : (y c : ℕ) → y ≤ x → n ≤ c → Ok c → Live E m c y → Any (Wins y c) (n ∷ q)
+-- the same while the candidate n waits to be added behind the rear; listed from rear to front
+pub record Adding (F : ℕ → ℕ → ℕ) (E : ℕ → ℕ) (m : ℕ) (Ok : ℕ → Type 0) (x n : ℕ) (q : List ℕ) : Type 0 where
+  pub rises : Rises q
+  pub ok : Every Ok q
+  pub order : Threes (Ordered F E m x) q
+  pub above : Every (λ (k : ℕ). n < k) q
+  pub new : Ok n
+  pub cover : (y c : ℕ) → y ≤ x → n ≤ c → Ok c → Live E m c y → Any (Wins F E m y c) (n ∷ q)
 
+-- ---- what the moves are shown by
+module _ (F : ℕ → ℕ → ℕ) (E : ℕ → ℕ) (m : ℕ) where
+  -- who beats k at y beats whoever k beats there
+  over : (y c k : ℕ) (q : List ℕ) → Any (Wins F E m y k) q → Beats F y k c → Any (Wins F E m y c) q
+  over y c k q w b = any-map (Wins F E m y k) (Wins F E m y c) (λ j v. (v .0, beats-trans F y j k c (v .1) b)) q w
+
+  -- j < k, and j is no worse than k at y: j wins
+  nearer : {Ok : ℕ → Type 0} → Laws F E Ok → (y j k : ℕ) → Ok j → Ok k → j < k → Live E m k y → F j y ≤ F k y → Wins F E m y k j
+  nearer laws y j k hasj hask lt live le = (omega (arith, laws .rise j k hasj hask lt), inr (le, omega arith))
+
+  -- In a queue whose members are live, each is better than the next once the front is.
+  climb : (x h : ℕ) (q : List ℕ) → Threes (λ (a b c : ℕ). Ordered F E m x c b a) (h ∷ q) → Every (λ (k : ℕ). Live E m k x) (h ∷ q) → Leads F x (h ∷ q) →
+      Every (λ (k : ℕ). F h x < F k x) q
+  climb x h [] order live lt = tt
+  climb x h (s ∷ q) order live lt =
+      (lt, every-map (λ (k : ℕ). F s x < F k x) (λ (k : ℕ). F h x < F k x) (λ k g. omega arith) q (climb x s q (threes-tail (λ (a b c : ℕ). Ordered F E m x c b a) h (s ∷ q) order) (live .1) (next q order)))
+    where
+      next : (q : List ℕ) → Threes (λ (a b c : ℕ). Ordered F E m x c b a) (h ∷ s ∷ q) → Leads F x (s ∷ q)
+      next [] order = tt
+      next (r ∷ q) order = ⊎-elim (λ g. absurd (omega (arith, order .0 x (omega arith) (live .0) g))) (λ g. g) (split (F r x) (F s x))
+
+module _ {F : ℕ → ℕ → ℕ} {E : ℕ → ℕ} {m : ℕ} {Ok : ℕ → Type 0} where
   -- ---- the queue between moves
   -- no candidate yet
-  pub nothing : (x lo : ℕ) → ((c : ℕ) → lo ≤ c → ¬ Ok c) → Queue x lo []
-  nothing x lo nobody = record { falls = tt; ok = tt; order = tt; above = tt; cover = λ y c le from has. absurd (nobody c from has) }
+  pub nothing : {x lo : ℕ} → ((c : ℕ) → lo ≤ c → ¬ Ok c) → Queue F E m Ok x lo []
+  nothing nobody = record { falls = tt; ok = tt; order = tt; above = tt; cover = λ y c le from has. absurd (nobody c from has) }
 
   -- the next start
-  pub later : (x y lo : ℕ) (q : List ℕ) → y ≤ x → Queue x lo q → Queue y lo q
-  later x y lo q le u = record {
+  pub later : {x y lo : ℕ} {q : List ℕ} → y ≤ x → Queue F E m Ok x lo q → Queue F E m Ok y lo q
+  later {x} {y} {q = q} le u = record {
     falls = u .falls;
     ok = u .ok;
     order = threes-map (λ (a b c : ℕ). Ordered F E m x c b a) (λ (a b c : ℕ). Ordered F E m y c b a) (λ a b c h z zy. h z (omega arith)) q (u .order);
@@ -82,8 +103,8 @@ module _ (F : ℕ → ℕ → ℕ) (E : ℕ → ℕ) (m : ℕ) (Ok : ℕ → Typ
   }
 
   -- Pass: a candidate that will never be live and have a cost
-  pub pass : (x lo n : ℕ) (q : List ℕ) → n + 1 ≡ lo → ((y : ℕ) → y ≤ x → Ok n → ¬ Live E m n y) → Queue x lo q → Queue x n q
-  pass x lo n q e never u = record {
+  pub pass : {x lo n : ℕ} {q : List ℕ} → n + 1 ≡ lo → ((y : ℕ) → y ≤ x → Ok n → ¬ Live E m n y) → Queue F E m Ok x lo q → Queue F E m Ok x n q
+  pass {lo = lo} {n = n} {q = q} e never u = record {
     falls = u .falls;
     ok = u .ok;
     order = u .order;
@@ -96,8 +117,8 @@ module _ (F : ℕ → ℕ → ℕ) (E : ℕ → ℕ) (m : ℕ) (Ok : ℕ → Typ
   }
 
   -- Drop: the front is not live, here and from here on
-  pub drop-long : (x lo h : ℕ) (q : List ℕ) → x + m < E h → Queue x lo (h ∷ q) → Queue x lo q
-  drop-long x lo h q long u = record {
+  pub drop-long : {x lo h : ℕ} {q : List ℕ} → x + m < E h → Queue F E m Ok x lo (h ∷ q) → Queue F E m Ok x lo q
+  drop-long {x} {h = h} {q = q} long u = record {
     falls = u .falls .1;
     ok = u .ok .1;
     order = threes-tail (λ (a b c : ℕ). Ordered F E m x c b a) h q (u .order);
@@ -105,13 +126,13 @@ module _ (F : ℕ → ℕ → ℕ) (E : ℕ → ℕ) (m : ℕ) (Ok : ℕ → Typ
     cover = λ y c le from has live. keep y c le (u .cover y c le from has live);
   }
     where
-      keep : (y c : ℕ) → y ≤ x → Any (Wins y c) (h ∷ q) → Any (Wins y c) q
+      keep : (y c : ℕ) → y ≤ x → Any (Wins F E m y c) (h ∷ q) → Any (Wins F E m y c) q
       keep y c le (inl w) = absurd (omega (arith, w .0))
       keep y c le (inr w) = w
 
   -- the candidate n comes
-  pub come : (x lo n : ℕ) (q : List ℕ) → n + 1 ≡ lo → Ok n → Queue x lo q → Adding x n (reverse q)
-  come x lo n q e has u = record {
+  pub come : {x lo n : ℕ} {q : List ℕ} → n + 1 ≡ lo → Ok n → Queue F E m Ok x lo q → Adding F E m Ok x n (reverse q)
+  come {x} {lo} {n} {q} e has u = record {
     rises = pairs-reverse (λ (a b : ℕ). b < a) q (u .falls);
     ok = every-reverse Ok q (u .ok);
     order = threes-reverse (λ (a b c : ℕ). Ordered F E m x c b a) q (u .order);
@@ -120,32 +141,24 @@ module _ (F : ℕ → ℕ → ℕ) (E : ℕ → ℕ) (m : ℕ) (Ok : ℕ → Typ
     cover = λ y c le from hasc live.
         ⊎-elim
         (λ g. let f : n ≡ c = omega arith in inl (rw f live, subst (λ (k : ℕ). Beats F y n k) f (beats-refl F y n)))
-        (λ g. inr (any-reverse (Wins y c) q (u .cover y c le (omega arith) hasc live)))
+        (λ g. inr (any-reverse (Wins F E m y c) q (u .cover y c le (omega arith) hasc live)))
         (split c n);
   }
 
   -- Add: the candidate n stands rightly before the rear and its neighbour
-  pub add : (x n : ℕ) (q : List ℕ) → Threes (Ordered F E m x) (n ∷ q) → Adding x n q → Queue x n (reverse (n ∷ q))
-  add x n q order u = record {
+  pub add : {x n : ℕ} {q : List ℕ} → Threes (Ordered F E m x) (n ∷ q) → Adding F E m Ok x n q → Queue F E m Ok x n (reverse (n ∷ q))
+  add {x} {n} {q} order u = record {
     falls = pairs-reverse (λ (a b : ℕ). a < b) (n ∷ q) (u .above, u .rises);
     ok = every-reverse Ok (n ∷ q) (u .new, u .ok);
     order = threes-reverse (Ordered F E m x) (n ∷ q) order;
     above = every-reverse (λ (k : ℕ). n ≤ k) (n ∷ q) (omega arith, every-map (λ (k : ℕ). n < k) (λ (k : ℕ). n ≤ k) (λ k h. omega arith) q (u .above));
-    cover = λ y c le from has live. any-reverse (Wins y c) (n ∷ q) (u .cover y c le from has live);
+    cover = λ y c le from has live. any-reverse (Wins F E m y c) (n ∷ q) (u .cover y c le from has live);
   }
 
   module _ (laws : Laws F E Ok) where
-    -- who beats k at y beats whoever k beats there
-    over : (y c k : ℕ) (q : List ℕ) → Any (Wins y k) q → Beats F y k c → Any (Wins y c) q
-    over y c k q w b = any-map (Wins y k) (Wins y c) (λ j v. (v .0, beats-trans F y j k c (v .1) b)) q w
-
-    -- j < k, and j is no worse than k at y: j wins
-    nearer : (y j k : ℕ) → Ok j → Ok k → j < k → Live E m k y → F j y ≤ F k y → Wins y k j
-    nearer y j k hasj hask lt live le = (omega (arith, laws .rise j k hasj hask lt), inr (le, omega arith))
-
     -- Drop: the one behind the front is no worse
-    pub drop-worse : (x lo h s : ℕ) (q : List ℕ) → F s x ≤ F h x → Queue x lo (h ∷ s ∷ q) → Queue x lo (s ∷ q)
-    drop-worse x lo h s q le u = record {
+    pub drop-worse : {x lo h s : ℕ} {q : List ℕ} → F s x ≤ F h x → Queue F E m Ok x lo (h ∷ s ∷ q) → Queue F E m Ok x lo (s ∷ q)
+    drop-worse {x} {h = h} {s = s} {q = q} le u = record {
       falls = u .falls .1;
       ok = u .ok .1;
       order = threes-tail (λ (a b c : ℕ). Ordered F E m x c b a) h (s ∷ q) (u .order);
@@ -153,16 +166,16 @@ module _ (F : ℕ → ℕ → ℕ) (E : ℕ → ℕ) (m : ℕ) (Ok : ℕ → Typ
       cover = λ y c yx from has live. keep y c yx (u .cover y c yx from has live);
     }
       where
-        keep : (y c : ℕ) → y ≤ x → Any (Wins y c) (h ∷ s ∷ q) → Any (Wins y c) (s ∷ q)
+        keep : (y c : ℕ) → y ≤ x → Any (Wins F E m y c) (h ∷ s ∷ q) → Any (Wins F E m y c) (s ∷ q)
         keep y c yx (inl w) =
-            over y c h (s ∷ q)
-            (inl (nearer y s h (u .ok .1 .0) (u .ok .0) (u .falls .0 .0) (w .0) (laws .gain s h x y (u .ok .1 .0) (u .ok .0) (u .falls .0 .0) yx le)))
+            over F E m y c h (s ∷ q)
+            (inl (nearer F E m laws y s h (u .ok .1 .0) (u .ok .0) (u .falls .0 .0) (w .0) (laws .gain s h x y (u .ok .1 .0) (u .ok .0) (u .falls .0 .0) yx le)))
             (w .1)
         keep y c yx (inr w) = w
 
     -- ---- Pop: at each position where the rear k is live, something that stays wins against it
-    pop : (x n k : ℕ) (q : List ℕ) → ((y : ℕ) → y ≤ x → Live E m k y → Any (Wins y k) (n ∷ q)) → Adding x n (k ∷ q) → Adding x n q
-    pop x n k q stays u = record {
+    pop : {x n k : ℕ} {q : List ℕ} → ((y : ℕ) → y ≤ x → Live E m k y → Any (Wins F E m y k) (n ∷ q)) → Adding F E m Ok x n (k ∷ q) → Adding F E m Ok x n q
+    pop {x} {n} {k} {q} stays u = record {
       rises = u .rises .1;
       ok = u .ok .1;
       order = threes-tail (Ordered F E m x) k q (u .order);
@@ -171,26 +184,26 @@ module _ (F : ℕ → ℕ → ℕ) (E : ℕ → ℕ) (m : ℕ) (Ok : ℕ → Typ
       cover = λ y c le from has live. keep y c le (u .cover y c le from has live);
     }
       where
-        keep : (y c : ℕ) → y ≤ x → Any (Wins y c) (n ∷ k ∷ q) → Any (Wins y c) (n ∷ q)
+        keep : (y c : ℕ) → y ≤ x → Any (Wins F E m y c) (n ∷ k ∷ q) → Any (Wins F E m y c) (n ∷ q)
         keep y c le (inl w) = inl w
-        keep y c le (inr (inl w)) = over y c k (n ∷ q) (stays y le (w .0)) (w .1)
+        keep y c le (inr (inl w)) = over F E m y c k (n ∷ q) (stays y le (w .0)) (w .1)
         keep y c le (inr (inr w)) = inr w
 
     -- the candidate is no worse than the rear
-    pub pop-worse : (x n k : ℕ) (q : List ℕ) → F n x ≤ F k x → Adding x n (k ∷ q) → Adding x n q
-    pop-worse x n k q le u =
-        pop x n k q
-        (λ y yx live. inl (nearer y n k (u .new) (u .ok .0) (u .above .0) live (laws .gain n k x y (u .new) (u .ok .0) (u .above .0) yx le)))
+    pub pop-worse : {x n k : ℕ} {q : List ℕ} → F n x ≤ F k x → Adding F E m Ok x n (k ∷ q) → Adding F E m Ok x n q
+    pop-worse {x} {n} {k} le u =
+        pop
+        (λ y yx live. inl (nearer F E m laws y n k (u .new) (u .ok .0) (u .above .0) live (laws .gain n k x y (u .new) (u .ok .0) (u .above .0) yx le)))
         u
 
     -- the rear is of no use between the candidate and its neighbour
-    pub pop-useless : (x n k l : ℕ) (q : List ℕ) → Useless F E m x n k l → Adding x n (k ∷ l ∷ q) → Adding x n (l ∷ q)
-    pop-useless x n k l q useless u = pop x n k (l ∷ q) stays u
+    pub pop-useless : {x n k l : ℕ} {q : List ℕ} → Useless F E m x n k l → Adding F E m Ok x n (k ∷ l ∷ q) → Adding F E m Ok x n (l ∷ q)
+    pop-useless {x} {n} {k} {l} {q} useless u = pop stays u
       where
-        candidate : (y : ℕ) → y ≤ x → Live E m k y → (Live E m l y → F k y ≤ F l y) → Any (Wins y k) (n ∷ l ∷ q)
-        candidate y yx live h = inl (nearer y n k (u .new) (u .ok .0) (u .above .0) live (useless y yx h))
+        candidate : (y : ℕ) → y ≤ x → Live E m k y → (Live E m l y → F k y ≤ F l y) → Any (Wins F E m y k) (n ∷ l ∷ q)
+        candidate y yx live h = inl (nearer F E m laws y n k (u .new) (u .ok .0) (u .above .0) live (useless y yx h))
 
-        stays : (y : ℕ) → y ≤ x → Live E m k y → Any (Wins y k) (n ∷ l ∷ q)
+        stays : (y : ℕ) → y ≤ x → Live E m k y → Any (Wins F E m y k) (n ∷ l ∷ q)
         stays y yx live =
             ⊎-elim
             (λ le. candidate y yx live (λ lives. le))
@@ -202,31 +215,20 @@ module _ (F : ℕ → ℕ → ℕ) (E : ℕ → ℕ) (m : ℕ) (Ok : ℕ → Typ
             (split (F k y) (F l y))
 
   -- ---- the choice
-  -- In a queue whose members are live, each is better than the next once the front is.
-  climb : (x h : ℕ) (q : List ℕ) → Threes (λ (a b c : ℕ). Ordered F E m x c b a) (h ∷ q) → Every (λ (k : ℕ). Live E m k x) (h ∷ q) → Leads F x (h ∷ q) →
-      Every (λ (k : ℕ). F h x < F k x) q
-  climb x h [] order live lt = tt
-  climb x h (s ∷ q) order live lt =
-      (lt, every-map (λ (k : ℕ). F s x < F k x) (λ (k : ℕ). F h x < F k x) (λ k g. omega arith) q (climb x s q (threes-tail (λ (a b c : ℕ). Ordered F E m x c b a) h (s ∷ q) order) (live .1) (next q order)))
-    where
-      next : (q : List ℕ) → Threes (λ (a b c : ℕ). Ordered F E m x c b a) (h ∷ s ∷ q) → Leads F x (s ∷ q)
-      next [] order = tt
-      next (r ∷ q) order = ⊎-elim (λ g. absurd (omega (arith, order .0 x (omega arith) (live .0) g))) (λ g. g) (split (F r x) (F s x))
-
   -- The front is the choice: it beats every candidate that is live.
-  pub front-least : (x lo h : ℕ) (q : List ℕ) → Queue x lo (h ∷ q) → Every (λ (k : ℕ). Live E m k x) (h ∷ q) → Leads F x (h ∷ q) →
+  pub front-least : {x lo h : ℕ} {q : List ℕ} → Queue F E m Ok x lo (h ∷ q) → Every (λ (k : ℕ). Live E m k x) (h ∷ q) → Leads F x (h ∷ q) →
       (c : ℕ) → lo ≤ c → Ok c → Live E m c x → Beats F x h c
-  front-least x lo h q u live lt c from has alive = go (u .cover x c (omega arith) from has alive)
+  front-least {x} {h = h} {q = q} u live lt c from has alive = go (u .cover x c (omega arith) from has alive)
     where
       behind : Every (λ (k : ℕ). F h x < F k x) q
-      behind = climb x h q (u .order) live lt
+      behind = climb F E m x h q (u .order) live lt
 
-      go : Any (Wins x c) (h ∷ q) → Beats F x h c
+      go : Any (Wins F E m x c) (h ∷ q) → Beats F x h c
       go (inl w) = w .1
       go (inr w) =
-          any-gives (λ (k : ℕ). Wins x c k × (F h x < F k x)) (λ k v. beats-trans F x h k c (inl (v .1)) (v .0 .1)) q
-          (any-every (Wins x c) (λ (k : ℕ). F h x < F k x) (λ (k : ℕ). Wins x c k × (F h x < F k x)) (λ k v g. (v, g)) q w behind)
+          any-gives (λ (k : ℕ). Wins F E m x c k × (F h x < F k x)) (λ k v. beats-trans F x h k c (inl (v .1)) (v .0 .1)) q
+          (any-every (Wins F E m x c) (λ (k : ℕ). F h x < F k x) (λ (k : ℕ). Wins F E m x c k × (F h x < F k x)) (λ k v g. (v, g)) q w behind)
 
   -- An empty queue: no candidate is live.
-  pub empty-none : (x lo : ℕ) → Queue x lo [] → (c : ℕ) → lo ≤ c → Ok c → ¬ Live E m c x
-  empty-none x lo u c from has live = u .cover x c (omega arith) from has live
+  pub empty-none : {x lo : ℕ} → Queue F E m Ok x lo [] → (c : ℕ) → lo ≤ c → Ok c → ¬ Live E m c x
+  empty-none {x} u c from has live = u .cover x c (omega arith) from has live

@@ -107,7 +107,7 @@ module _ (l : Limits) (ws : List ℕ) (passed : Passed (limitsHold l) ws) (i : �
       none-low j ch none f = rw (through-none l ws r i long j f) tt
       none-low j ch (some v) f =
           absurd
-          (empty-none (G l ws) (at ws) (l .lmax) (Break l ws) (at ws i) (queueAt l ws i .stands .candidate + 1) (rw e at (sound-at l ws passed i start inside .0))
+          (empty-none (rw e at (sound-at l ws passed i start inside .0))
           j (considered j ch) (choice-break j ch (has-some f)) (choice-live j ch))
 
       nought : best l ws i ≡ none
@@ -124,7 +124,7 @@ module _ (l : Limits) (ws : List ℕ) (passed : Passed (limitsHold l) ws) (i : �
     beats : (j : ℕ) → Choice (paragraph l ws) i j → Has (best l ws j) → Beats (G l ws) (at ws i) h j
     beats j ch has =
         let s = sound-at l ws passed i start inside in
-        front-least (G l ws) (at ws) (l .lmax) (Break l ws) (at ws i) (queueAt l ws i .stands .candidate + 1) h q (rw e at (s .0))
+        front-least (rw e at (s .0))
         (every-map (Live l ws i) (λ (k : ℕ). at ws k ≤ at ws i + l .lmax) on-scale (h ∷ q) live) (rw e at (s .1))
         j (considered j ch) (choice-break j ch has) (choice-live j ch)
 

@@ -45,7 +45,7 @@ module _ (l : Limits) (ws : List ℕ) (passed : Passed (limitsHold l) ws) (i : �
       (λ short. rw (dropLong-stop (textOf l ws) i h q short) u)
       (λ long. rw (dropLong-more (textOf l ws) i h q long)
       (dropLong-sound lo q low
-      (drop-long (G l ws) (at ws) (l .lmax) (Break l ws) (at ws i) lo h q (omega (arith, at-line ws i h start (omega (arith, u .above .0)))) u)))
+      (drop-long (omega (arith, at-line ws i h start (omega (arith, u .above .0)))) u)))
       (split (line ws i h) (l .lmax))
 
   -- ---- rule 2
@@ -56,7 +56,7 @@ module _ (l : Limits) (ws : List ℕ) (passed : Passed (limitsHold l) ws) (i : �
       ⊎-elim
       (λ worse. rw (popWorse-more (textOf l ws) i j k q worse)
       (popWorse-sound j q ij
-      (pop-worse (G l ws) (at ws) (l .lmax) (Break l ws) (laws l ws) (at ws i) j k q (to-G j k ij (omega (arith, u .above .0)) worse) u)))
+      (pop-worse (laws l ws) (to-G j k ij (omega (arith, u .above .0)) worse) u)))
       (λ better. rw (popWorse-stop (textOf l ws) i j k q better) u)
       (split (F (textOf l ws) i j) (F (textOf l ws) i k))
 
@@ -69,7 +69,7 @@ module _ (l : Limits) (ws : List ℕ) (passed : Passed (limitsHold l) ws) (i : �
       ⊎-elim
       (λ e. rw (popBridged-more (textOf l ws) j k m q e)
       (popBridged-sound j (m ∷ q) new (live .1)
-      (pop-useless (G l ws) (at ws) (l .lmax) (Break l ws) (laws l ws) (at ws i) j k m q
+      (pop-useless (laws l ws)
       (bridged-useless l ws j k m from jk km near (passed .lengths) (live .1 .0 .within) (at ws i) e) u)))
       (λ e. rw (popBridged-stop (textOf l ws) j k m q e)
       (u, (bridged-ordered l ws j k m from jk km near (passed .lengths) (live .1 .0 .within) (at ws i) e, u .order)))
@@ -91,9 +91,9 @@ module _ (l : Limits) (ws : List ℕ) (passed : Passed (limitsHold l) ws) (i : �
   unfolding add
   add-sound j lo q e new live u =
       let r = popWorse (textOf l ws) i j (reverse q) .stands in
-      let a = popWorse-sound j (reverse q) (omega (arith, new .above)) (come (G l ws) (at ws) (l .lmax) (Break l ws) (at ws i) lo j q e (live-break j new) u) in
+      let a = popWorse-sound j (reverse q) (omega (arith, new .above)) (come e (live-break j new) u) in
       let b = popBridged-sound j r new (popWorse-every (textOf l ws) (Live l ws i) i j (reverse q) (every-reverse (Live l ws i) q live)) a in
-      Laws.add (G l ws) (at ws) (l .lmax) (Break l ws) (at ws i) j (popBridged (textOf l ws) j r .stands) (b .1) (b .0)
+      Laws.add (b .1) (b .0)
 
   module _ (positive : 1 ≤ l .lmin) where
     consider-sound : (j lo : ℕ) (q : List ℕ) → j + 1 ≡ lo → Held l ws i j q → l .lmin ≤ line ws i j → Sound l ws i lo q →
@@ -101,7 +101,7 @@ module _ (l : Limits) (ws : List ℕ) (passed : Passed (limitsHold l) ws) (i : �
     unfolding textOf
     consider-sound j lo q e h reach u =
         consider-gives (textOf l ws) i j q (λ (r : Taken (List ℕ)). Sound l ws i j (r .stands))
-        (λ out. pass (G l ws) (at ws) (l .lmax) (Break l ws) (at ws i) lo j q e
+        (λ out. pass e
         (λ y yx b live. out (omega (arith, at-line ws i j start (h .near))) (b .has)) u)
         (λ high has. add-sound j lo q e (considered-live l ws i j q start positive h reach high has) (h .live) u)
 
@@ -128,7 +128,7 @@ module _ (l : Limits) (ws : List ℕ) (passed : Passed (limitsHold l) ws) (i : �
       ⊎-elim
       (λ worse. rw (dropWorse-more (textOf l ws) i h s q worse)
       (dropWorse-sound lo (s ∷ q) low
-      (drop-worse (G l ws) (at ws) (l .lmax) (Break l ws) (laws l ws) (at ws i) lo h s q (to-G s h (omega (arith, u .above .1 .0)) (omega (arith, u .above .0)) worse) u)))
+      (drop-worse (laws l ws) (to-G s h (omega (arith, u .above .1 .0)) (omega (arith, u .above .0)) worse) u)))
       (λ better. rw (dropWorse-stop (textOf l ws) i h s q better)
       (u, omega (arith, F-is l ws i h start (omega (arith, u .above .0)), F-is l ws i s start (omega (arith, u .above .1 .0)))))
       (split (F (textOf l ws) i s) (F (textOf l ws) i h))
@@ -144,14 +144,14 @@ module _ (l : Limits) (ws : List ℕ) (passed : Passed (limitsHold l) ws) (i : �
       let m = candidates (textOf l ws) i (s .candidate) q .stands in
       let h = dropLong-held l ws i (s .candidate) (s .queue) start (r .held) in
       let v = dropLong-sound (s .candidate + 1) (s .queue) (omega (arith, r .held .near))
-      (later (G l ws) (at ws) (l .lmax) (Break l ws) (at ws (i + 1)) (at ws i) (s .candidate + 1) (s .queue) (at-le ws i (i + 1) (omega arith)) u) in
+      (later (at-le ws i (i + 1) (omega arith)) u) in
       dropWorse-sound (m .candidate + 1) (m .queue) (omega (arith, candidates-held l ws i start positive (s .candidate) q h .0 .near))
       (candidates-sound positive (s .candidate) q h v)
 
 -- ---- all starts
 module _ (l : Limits) (ws : List ℕ) (passed : Passed (limitsHold l) ws) where
   sound-first : Sound l ws (length ws + 1) (length ws + 1 + 1) []
-  sound-first = nothing (G l ws) (at ws) (l .lmax) (Break l ws) (at ws (length ws + 1)) (length ws + 1 + 1) (λ c low b. omega (arith, b .within))
+  sound-first = nothing (λ c low b. omega (arith, b .within))
 
   sound : (d : ℕ) → d ≤ length ws →
       Sound l ws (length ws - d + 1) (afterStarts (textOf l ws) (length ws) d .stands .candidate + 1) (afterStarts (textOf l ws) (length ws) d .stands .queue)
