@@ -99,7 +99,7 @@ module _ (l : Limits) (ws : List ℕ) (passed : Passed (limitsHold l) ws) (i : �
   chosen-is = rw (lt-leb (line ws i (end ws)) (l .lopt) long)
 
   -- no member: no choice has a setting
-  empty-chooses : queueAt l ws i .stands .queue ≡ [] → Chooses l ws i []
+  pub empty-chooses : queueAt l ws i .stands .queue ≡ [] → Chooses l ws i []
   unfolding best paragraph
   empty-chooses e = (nought, chosen-is ∙ next-none (paragraph l ws) smallest i (omega arith) nought)
     where
@@ -166,7 +166,7 @@ module _ (l : Limits) (ws : List ℕ) (passed : Passed (limitsHold l) ws) (i : �
       ahead = λ k ch g. front-ahead k ch (best l ws k) refl g;
     }
 
-    front-chooses : Chooses l ws i (h ∷ q)
+    pub front-chooses : Chooses l ws i (h ∷ q)
     unfolding best paragraph
     front-chooses =
         (best-front, chosen-is ∙ next-unique (next-is (paragraph l ws) smallest i (omega arith) (has-some best-front)) front-next)

@@ -29,11 +29,11 @@ joined-same a b f g e h = rw (e, h)
 
 module _ (l : Limits) (ws : List ℕ) (p : ℕ → ℕ) (same : (x : ℕ) → l .lmin ≤ x → x ≤ l .lmax → p x ≡ penalty l x) (i : ℕ) (start : 1 ≤ i) where
   -- ---- the tests
-  F-same : (j : ℕ) → Live l ws i j → F (textBy l ws p) i j ≡ F (textOf l ws) i j
+  pub F-same : (j : ℕ) → Live l ws i j → F (textBy l ws p) i j ≡ F (textOf l ws) i j
   unfolding F textOf
   F-same j v = ap (λ (x : ℕ). value (best l ws j) + x) (same (line ws i j) (v .low) (v .high))
 
-  bridged-same : (j k m : ℕ) → j < k → k < m → Live l ws i j → Live l ws i k → Live l ws i m → bridged (textBy l ws p) j k m ≡ bridged (textOf l ws) j k m
+  pub bridged-same : (j k m : ℕ) → j < k → k < m → Live l ws i j → Live l ws i k → Live l ws i m → bridged (textBy l ws p) j k m ≡ bridged (textOf l ws) j k m
   unfolding edge chord textOf
   bridged-same j k m jk km u v w =
       rw (

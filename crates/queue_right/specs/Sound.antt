@@ -44,8 +44,7 @@ module _ (l : Limits) (ws : List ℕ) (passed : Passed (limitsHold l) ws) (i : �
       ⊎-elim
       (λ short. rw (dropLong-stop (textOf l ws) i h q short) u)
       (λ long. rw (dropLong-more (textOf l ws) i h q long)
-      (dropLong-sound lo q low
-      (drop-long (omega (arith, at-line ws i h start (omega (arith, u .above .0)))) u)))
+      (dropLong-sound lo q low (drop-long (omega (arith, at-line ws i h start (omega (arith, u .above .0)))) u)))
       (split (line ws i h) (l .lmax))
 
   -- ---- rule 2
@@ -55,8 +54,7 @@ module _ (l : Limits) (ws : List ℕ) (passed : Passed (limitsHold l) ws) (i : �
   popWorse-sound j (k ∷ q) ij u =
       ⊎-elim
       (λ worse. rw (popWorse-more (textOf l ws) i j k q worse)
-      (popWorse-sound j q ij
-      (pop-worse (laws l ws) (to-G j k ij (omega (arith, u .above .0)) worse) u)))
+      (popWorse-sound j q ij (pop-worse (laws l ws) (to-G j k ij (omega (arith, u .above .0)) worse) u)))
       (λ better. rw (popWorse-stop (textOf l ws) i j k q better) u)
       (split (F (textOf l ws) i j) (F (textOf l ws) i k))
 
@@ -69,8 +67,7 @@ module _ (l : Limits) (ws : List ℕ) (passed : Passed (limitsHold l) ws) (i : �
       ⊎-elim
       (λ e. rw (popBridged-more (textOf l ws) j k m q e)
       (popBridged-sound j (m ∷ q) new (live .1)
-      (pop-useless (laws l ws)
-      (bridged-useless l ws j k m from jk km near (passed .lengths) (live .1 .0 .within) (at ws i) e) u)))
+      (pop-useless (laws l ws) (bridged-useless l ws j k m from jk km near (passed .lengths) (live .1 .0 .within) (at ws i) e) u)))
       (λ e. rw (popBridged-stop (textOf l ws) j k m q e)
       (u, (bridged-ordered l ws j k m from jk km near (passed .lengths) (live .1 .0 .within) (at ws i) e, u .order)))
       (tested (bridged (textOf l ws) j k m))
@@ -101,8 +98,7 @@ module _ (l : Limits) (ws : List ℕ) (passed : Passed (limitsHold l) ws) (i : �
     unfolding textOf
     consider-sound j lo q e h reach u =
         consider-gives (textOf l ws) i j q (λ (r : Taken (List ℕ)). Sound l ws i j (r .stands))
-        (λ out. pass e
-        (λ y yx b live. out (omega (arith, at-line ws i j start (h .near))) (b .has)) u)
+        (λ out. pass e (λ y yx b live. out (omega (arith, at-line ws i j start (h .near))) (b .has)) u)
         (λ high has. add-sound j lo q e (considered-live l ws i j q start positive h reach high has) (h .live) u)
 
     candidates-sound : (c : ℕ) (q : List ℕ) → Held l ws i c q → Sound l ws i (c + 1) q →
@@ -143,8 +139,7 @@ module _ (l : Limits) (ws : List ℕ) (passed : Passed (limitsHold l) ws) (i : �
       let q = dropLong (textOf l ws) i (s .queue) .stands in
       let m = candidates (textOf l ws) i (s .candidate) q .stands in
       let h = dropLong-held l ws i (s .candidate) (s .queue) start (r .held) in
-      let v = dropLong-sound (s .candidate + 1) (s .queue) (omega (arith, r .held .near))
-      (later (at-le ws i (i + 1) (omega arith)) u) in
+      let v = dropLong-sound (s .candidate + 1) (s .queue) (omega (arith, r .held .near)) (later (at-le ws i (i + 1) (omega arith)) u) in
       dropWorse-sound (m .candidate + 1) (m .queue) (omega (arith, candidates-held l ws i start positive (s .candidate) q h .0 .near))
       (candidates-sound positive (s .candidate) q h v)
 

@@ -3,7 +3,7 @@ use Prim.Native.Nat.{ℕ, zero, suc, _+_, _≤_, _<_}
 use mathlib.Core.Path.{_≡_, refl, ap}
 use mathlib.Core.Logic.{⊎-elim}
 use mathlib.Core.Bool.{Bool, true, false, not, _||_}
-use mathlib.Core.List.{List, _∷_}
+use mathlib.Core.List.{List, [], _∷_}
 use native.Mathlib.Omega.{arith}
 use lib.Dec.{ltb}
 use borrow.Author.Tests.{lt-ltb, le-ltb, le-leb, lt-leb}
@@ -23,6 +23,10 @@ none-false (some v) h = absurd (h tt)
 
 module _ (t : Text) (i : ℕ) where
   -- ---- rule 1
+  pub dropLong-empty : dropLong t i [] ≡ still []
+  unfolding dropLong
+  dropLong-empty = refl
+
   pub dropLong-more : (j : ℕ) (q : List ℕ) → t .limits .lmax < t .line i j → dropLong t i (j ∷ q) ≡ moved (move Drop j) (dropLong t i q)
   unfolding dropLong
   dropLong-more j q h = rw (lt-ltb (t .limits .lmax) (t .line i j) h, dropLong)
@@ -32,6 +36,10 @@ module _ (t : Text) (i : ℕ) where
   dropLong-stop j q h = rw (le-ltb (t .limits .lmax) (t .line i j) h, dropLong)
 
   -- ---- rule 2
+  pub popWorse-empty : (j : ℕ) → popWorse t i j [] ≡ still []
+  unfolding popWorse
+  popWorse-empty j = refl
+
   pub popWorse-more : (j k : ℕ) (q : List ℕ) → F t i j ≤ F t i k → popWorse t i j (k ∷ q) ≡ moved (move Pop k) (popWorse t i j q)
   unfolding popWorse
   popWorse-more j k q h = rw (le-leb (F t i j) (F t i k) h, popWorse)
@@ -76,6 +84,14 @@ module _ (t : Text) (i : ℕ) where
   candidates-stop (suc c) q h = rw (lt-leb (t .limits .lmin) (t .line i (suc c)) h, candidates)
 
   -- ---- rule 3
+  pub dropWorse-empty : dropWorse t i [] ≡ still []
+  unfolding dropWorse
+  dropWorse-empty = refl
+
+  pub dropWorse-one : (j : ℕ) → dropWorse t i (j ∷ []) ≡ still (j ∷ [])
+  unfolding dropWorse
+  dropWorse-one j = refl
+
   pub dropWorse-more : (j k : ℕ) (q : List ℕ) → F t i k ≤ F t i j → dropWorse t i (j ∷ k ∷ q) ≡ moved (move Drop j) (dropWorse t i (k ∷ q))
   unfolding dropWorse
   dropWorse-more j k q h = rw (le-leb (F t i k) (F t i j) h, dropWorse)
@@ -85,6 +101,14 @@ module _ (t : Text) (i : ℕ) where
   dropWorse-stop j k q h = rw (lt-leb (F t i k) (F t i j) h, dropWorse)
 
 module _ (t : Text) (j : ℕ) where
+  pub popBridged-empty : popBridged t j [] ≡ still []
+  unfolding popBridged
+  popBridged-empty = refl
+
+  pub popBridged-one : (k : ℕ) → popBridged t j (k ∷ []) ≡ still (k ∷ [])
+  unfolding popBridged
+  popBridged-one k = refl
+
   pub popBridged-more : (k l : ℕ) (q : List ℕ) → bridged t j k l ≡ true → popBridged t j (k ∷ l ∷ q) ≡ moved (move Pop k) (popBridged t j (l ∷ q))
   unfolding popBridged
   popBridged-more k l q h = rw (h, popBridged)
