@@ -130,10 +130,6 @@ module _ {A : Type 0} (R : A → A → A → Type 0) where
   threes-tail x (y ∷ []) h = tt
   threes-tail x (y ∷ z ∷ xs) h = h .1
 
-  pub threes-right : (xs ys : List A) → Threes R (xs ++ ys) → Threes R ys
-  threes-right [] ys h = h
-  threes-right (x ∷ xs) ys h = threes-right xs ys (threes-tail x (xs ++ ys) h)
-
   seam-next : (x : A) (xs ys : List A) → Threes R (x ∷ xs) → Seam R xs (x ∷ ys)
   seam-next x [] ys h = tt
   seam-next x (y ∷ []) ys h = tt
