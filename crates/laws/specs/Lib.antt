@@ -9,3 +9,4 @@ pub mod Square
 pub mod Bridge
 pub mod Strip
 pub mod Members
+pub mod Queue

@@ -1,12 +1,13 @@
 -- What holds of the members of a list: of every one, of some one, of each two, of each neighbouring three; for lists joined,
--- turned round, and for a part of a strip. Assumes nothing.
+-- turned round, and for a part of a strip, from one position up to another. Assumes nothing.
 use Prim.Native.Nat.{ℕ, zero, suc, _+_, _-_, _≤_, _<_}
 use mathlib.Core.Path.{_≡_, refl, subst}
 use mathlib.Core.Logic.{_⊎_, inl, inr}
-use mathlib.Core.List.{List, [], _∷_, _++_, reverseAux, reverse}
+use mathlib.Core.List.{List, [], _∷_, _++_, reverseAux, reverse, reverse-append, reverse-cons, reverse-reverse}
+use native.Mathlib.Numerals.{add-one}
 use native.Mathlib.Omega.{arith}
-use lib.ListN.{length, getD}
-use lib.Seq.{slice, slice-empty, slice-cons}
+use lib.ListN.{length, getD, take, set}
+use lib.Seq.{slice, slice-empty, slice-cons, take-suc, take-suc-set, drop-append-le, length-take-le}
 
 -- ---- every one
 abbrev pub Every : {A : Type 0} → (A → Type 0) → List A → Type 0
@@ -129,10 +130,6 @@ module _ {A : Type 0} (R : A → A → A → Type 0) where
   threes-tail x (y ∷ []) h = tt
   threes-tail x (y ∷ z ∷ xs) h = h .1
 
-  pub threes-right : (xs ys : List A) → Threes R (xs ++ ys) → Threes R ys
-  threes-right [] ys h = h
-  threes-right (x ∷ xs) ys h = threes-right xs ys (threes-tail x (xs ++ ys) h)
-
   seam-next : (x : A) (xs ys : List A) → Threes R (x ∷ xs) → Seam R xs (x ∷ ys)
   seam-next x [] ys h = tt
   seam-next x (y ∷ []) ys h = tt
@@ -195,3 +192,14 @@ slice-pairs R f e s es h a b fa ab be = go (a - f) f h (omega arith)
         subst (λ (k : ℕ). R (getD s k 0) (getD s b 0)) z
         (slice-every (R (getD s f 0)) (suc f) e s es (first f (omega arith) h .0) b (omega arith) be)
     go (suc d) f h g = go d (suc f) (first f (omega arith) h .1) (omega arith)
+
+-- the last entry of such a part is the first of the part turned round
+pub slice-rear : (f r e : ℕ) (s : List ℕ) → r + 1 ≡ e → f ≤ r → e ≤ length s → reverse (slice f e s) ≡ getD s r 0 ∷ reverse (slice f r s)
+slice-rear f r e s g fr es =
+    let z : e ≡ suc r = omega arith in
+    rw (z, take-suc s r 0 (omega arith), drop-append-le f (take r s) (getD s r 0 ∷ []) (omega (arith, length-take-le r s (omega arith))), reverse-append)
+
+-- one more entry behind the part: it comes first in the part turned round
+pub slice-push : (f e : ℕ) (s : List ℕ) (a : ℕ) → f ≤ e → e < length s → slice f (e + 1) (set s e a) ≡ reverse (a ∷ reverse (slice f e s))
+slice-push f e s a fe es =
+    rw (add-one e, take-suc-set s e a es, drop-append-le f (take e s) (a ∷ []) (omega (arith, length-take-le e s (omega arith))), reverse-cons, reverse-reverse)

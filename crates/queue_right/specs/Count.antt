@@ -47,13 +47,13 @@ module _ (t : Text) where
   pub consider-count : (i j : ℕ) (q : List ℕ) → length (consider t i j q .moves) + length (consider t i j q .stands) ≤ length q + 2
   consider-count i j q =
       consider-gives t i j q (λ (r : Taken (List ℕ)). length (r .moves) + length (r .stands) ≤ length q + 2)
-      (omega arith)
+      (λ out. omega arith)
       (λ high has. omega (arith, add-count i j q))
 
   pub consider-room : (i j : ℕ) (q : List ℕ) → length (consider t i j q .stands) ≤ length q + 1
   consider-room i j q =
       consider-gives t i j q (λ (r : Taken (List ℕ)). length (r .stands) ≤ length q + 1)
-      (omega arith)
+      (λ out. omega arith)
       (λ high has. add-room i j q)
 
   -- each candidate that is considered makes room for two moves

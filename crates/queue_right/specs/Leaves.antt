@@ -1,5 +1,5 @@
 -- Rules 1 and 3 and both pops take members off one end of the queue: their moves name what they take, and what stands is the
--- rest. So what holds of every member, of each two or of each neighbouring three holds still. For any text. Assumes nothing.
+-- rest. So what holds of every member, or of each two, holds still. For any text. Assumes nothing.
 use Prim.Native.Nat.{ℕ, _+_}
 use mathlib.Core.Path.{_≡_, refl, ap}
 use mathlib.Core.Logic.{⊎-elim}
@@ -7,7 +7,7 @@ use mathlib.Core.List.{List, [], _∷_, _++_, map}
 use native.Mathlib.Omega.{arith}
 use lib.ListN.{length, length-append, length-map}
 use Rattle.laws.specs.Number.{split, tested}
-use Rattle.laws.specs.Members.{Every, every-right, Pairs, pairs-right, Threes, threes-right}
+use Rattle.laws.specs.Members.{Every, every-right, Pairs, pairs-right}
 use Rattle.paper.specs.declared.Kind.{Kind}
 use Rattle.paper.specs.declared.Kind.the-variants.{Drop, Pop}
 use Rattle.paper.specs.declared.Move.{Move}
@@ -77,9 +77,6 @@ module _ (kind : Kind) (q : List ℕ) (r : Taken (List ℕ)) (h : Leaves kind q 
 
   pub leaves-pairs : (R : ℕ → ℕ → Type 0) → Pairs R q → Pairs R (r .stands)
   leaves-pairs R e = pairs-right R (h .gone) (r .stands) (rw (h .rest) at e)
-
-  pub leaves-threes : (R : ℕ → ℕ → ℕ → Type 0) → Threes R q → Threes R (r .stands)
-  leaves-threes R e = threes-right R (h .gone) (r .stands) (rw (h .rest) at e)
 
   -- each member that goes takes one move
   pub leaves-length : length (r .moves) + length (r .stands) ≡ length q

@@ -4,3 +4,7 @@ pub mod Turns
 pub mod Leaves
 pub mod Ready
 pub mod Count
+pub mod Curves
+pub mod Sound
+pub mod Front
+pub mod Inside

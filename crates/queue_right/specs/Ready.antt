@@ -117,7 +117,7 @@ module _ (l : Limits) (ws : List ℕ) where
       unfolding textOf
       consider-held =
           consider-gives (textOf l ws) i j q (λ (r : Taken (List ℕ)). Held l ws i c (r .stands))
-          (record { near = omega (arith, considered-above); within = omega (arith, r .within); falls = r .falls; below = still-below; live = r .live })
+          (λ out. record { near = omega (arith, considered-above); within = omega (arith, r .within); falls = r .falls; below = still-below; live = r .live })
           (λ high has. record {
             near = omega (arith, considered-above);
             within = omega (arith, r .within);
