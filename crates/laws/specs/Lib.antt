@@ -8,3 +8,4 @@ pub mod Chosen
 pub mod Square
 pub mod Bridge
 pub mod Strip
+pub mod Pointer
