@@ -4,11 +4,11 @@
 use Prim.Native.Nat.{ℕ, suc, _+_, _-_, _≤_, _<_}
 use mathlib.Core.Path.{_≡_, refl, sym, subst, _∙_}
 use mathlib.Core.Logic.{_⊎_, inl, inr, ⊎-elim, _≢_}
-use mathlib.Core.Bool.{not}
+use mathlib.Core.Bool.{true, false, not}
 use native.Mathlib.Omega.{arith}
 use lib.Dec.{T, T-not, not-T}
 use Rattle.laws.specs.Number.{split}
-use Rattle.laws.specs.Cost.{Cost, none, some, _≼_, ≼-refl, ≼-trans, leq, leq→≼, ≼→leq, Has, before, Reached, least-unique}
+use Rattle.laws.specs.Cost.{Cost, none, some, _≼_, ≼-refl, ≼-trans, ≼-total, leq, leq→≼, ≼→leq, Has, before, Reached, least-unique}
 use Rattle.laws.specs.Search.{Tie, smallest, largest, Ahead, Found, Missing, Picked}
 use Rattle.laws.specs.Setting.{Problem, Choice, through}
 use Rattle.laws.specs.Table.{best, best-steps}
@@ -57,6 +57,16 @@ module _ (tie : Tie) (b : ℕ → Cost) where
   abbrev pub cheaper : Order
   cheaper = record { Beats = Cheaper tie b; trans = cheaper-trans; asym = cheaper-asym }
 
+-- what the test "best j is not larger than best k" says of the order
+pub not-larger : (b : ℕ → Cost) (j k : ℕ) → k < j → leq (b j) (b k) ≡ true → Cheaper largest b j k
+not-larger b j k h e = record { low = leq→≼ (b j) (b k) (subst T (sym e) tt); strict = λ le. absurd (omega arith) }
+
+pub larger : (tie : Tie) (b : ℕ → Cost) (j k : ℕ) → leq (b j) (b k) ≡ false → Cheaper tie b k j
+larger tie b j k e = record { low = ⊎-elim (λ h. absurd (never h)) (λ h. h) (≼-total (b j) (b k)); strict = λ a. never }
+  where
+    never : ¬ (b j ≼ b k)
+    never h = subst T e (≼→leq (b j) (b k) h)
+
 -- ---- entries
 -- m is the left entry of k, of the indices from lo on: the largest below k that is taken before k, or 0 if none is
 pub record Left (o : Order) (lo k m : ℕ) : Type 0 where
@@ -64,6 +74,15 @@ pub record Left (o : Order) (lo k m : ℕ) : Type 0 where
   pub from : 0 < m → lo ≤ m
   pub beats : 0 < m → o .Beats m k
   pub rest : (j : ℕ) → lo ≤ j → m < j → j < k → o .Beats k j
+
+-- The first index has no left entry.
+pub left-first : (o : Order) (k : ℕ) → 1 ≤ k → Left o k k 0
+left-first o k h = record {
+  below = h;
+  from = λ p. absurd (omega arith);
+  beats = λ p. absurd (omega arith);
+  rest = λ j p q r. absurd (omega arith);
+}
 
 -- m is the right entry of k: the smallest above k, up to the end e, that is taken before k
 pub record Right (o : Order) (e k m : ℕ) : Type 0 where

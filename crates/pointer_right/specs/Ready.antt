@@ -1,0 +1,344 @@
+-- What stands before each start of the pointer rules: where the pointer is, and what each left and right entry is. Assumes nothing
+-- but what each law states.
+use Prim.Native.Nat.{ℕ, zero, suc, _+_, _-_, _≤_, _<_}
+use mathlib.Core.Path.{_≡_, refl, ap, sym, subst, _∙_}
+use mathlib.Core.Logic.{⊎-elim, _≢_}
+use mathlib.Core.Bool.{true, false}
+use mathlib.Core.List.{List}
+use native.Mathlib.Omega.{arith}
+use lib.Dec.{leb·zero}
+use lib.ListN.{length, getD, set, replicate, length-set, length-replicate, getD-replicate, List·getD-eq-default}
+use lib.Seq.{getD-set-same, getD-set-other}
+use Rattle.laws.specs.Number.{split, tested}
+use Rattle.laws.specs.Cost.{Cost, none, some, leq}
+use Rattle.laws.specs.Search.{largest}
+use Rattle.laws.specs.Table as Table
+use Rattle.laws.specs.Pointer.{Order, cheaper, not-larger, larger, Left, left-first, Right, Linking, linking-first, linking-more, linked-left, linked-right, Growing, Placed, placed-first, placed-step, placed-jump, placed-next}
+use Rattle.paper.specs.declared.PageLimits.{PageLimits}
+use Rattle.paper.specs.Paragraph.{sum, end}
+use Rattle.paper.specs.Index as Index
+use Rattle.paper.specs.Index.{gap, index}
+use Rattle.paper.specs.Allowed.{pageLimitsHold, Passed}
+use Rattle.paper.specs.Scale.{upTo-le, gap-scale}
+use Rattle.paper.specs.Moves.{Taken, still, joined}
+use Rattle.paper.specs.PointerRules.{Pages, pagesOf, entryAt, steps, jumps, Linked, links, Pointing, pointed, linked, atStart, afterStarts}
+use Rattle.pointer_right.specs.Turns.{steps-more, steps-stop, jumps-more, jumps-stop, links-more, links-stop, links-early, links-enough}
+
+-- ---- gaps
+pub gap-nought : (ws : List ℕ) (i r : ℕ) → r ≤ suc i → gap ws i r ≡ 0
+unfolding gap sum
+gap-nought ws i r h = let e : r - i - 1 ≡ 0 = omega arith in rw e
+
+pub gap-grows : (ws : List ℕ) → Growing (gap ws)
+gap-grows ws = record { far = far; near = near }
+  where
+    far : (i j k : ℕ) → j ≤ k → gap ws i j ≤ gap ws i k
+    far i j k h =
+        ⊎-elim
+        (λ g. omega (arith, gap-nought ws i j g))
+        (λ g. omega (arith, gap-scale ws i j (omega arith), gap-scale ws i k (omega arith), upTo-le ws (j - 1) (k - 1) (omega arith)))
+        (split j (suc i))
+
+    near : (h i j : ℕ) → h ≤ i → gap ws i j ≤ gap ws h j
+    near h i j le =
+        ⊎-elim
+        (λ g. omega (arith, gap-nought ws i j g))
+        (λ g. omega (arith, gap-scale ws i j (omega arith), gap-scale ws h j (omega arith), upTo-le ws h i le))
+        (split j (suc i))
+
+-- ---- what stands
+-- "Between equal choices the LARGEST next boundary is taken": the order in which indices are taken
+abbrev pub taken : PageLimits → List ℕ → Order
+taken l ws = cheaper largest (Index.best l ws)
+
+-- what stands before start i, after the starts n to i + 1
+pub record Ready (l : PageLimits) (ws : List ℕ) (i : ℕ) (s : Pointing) : Type 0 where
+  pub above : i < s .pointer
+  pub within : s .pointer ≤ length ws + 1
+  pub left-length : length (s .left) ≡ length ws + 2
+  pub right-length : length (s .right) ≡ length ws + 2
+  pub left : (k : ℕ) → i < k → k ≤ length ws + 1 → Left (taken l ws) (suc i) k (entryAt (s .left) k)
+  pub right : (k : ℕ) → i < k → k ≤ length ws → Right (taken l ws) (length ws + 1) k (entryAt (s .right) k)
+  pub left-open : (k : ℕ) → k ≤ i → entryAt (s .left) k ≡ 0
+  pub right-open : (k : ℕ) → k ≤ i → entryAt (s .right) k ≡ 0
+  pub right-end : entryAt (s .right) (length ws + 1) ≡ 0
+  pub placed : Placed (taken l ws) (gap ws) (l .lmin) (l .lmax) (length ws + 1) i (s .pointer)
+
+-- what stands at start i once r has stepped
+pub record Stepped (l : PageLimits) (ws : List ℕ) (i r : ℕ) : Type 0 where
+  pub above : i < r
+  pub within : r ≤ length ws + 1
+  pub allowed : gap ws i r ≤ l .lmax
+  pub placed : Placed (taken l ws) (gap ws) (l .lmin) (l .lmax) (length ws + 1) i r
+
+-- what stands at start i once r has stepped and jumped
+pub record Pointed (l : PageLimits) (ws : List ℕ) (i : ℕ) (left : List ℕ) (r : ℕ) : Type 0 where
+  pub stepped : Stepped l ws i r
+  pub stops : 0 < entryAt left r → gap ws i (entryAt left r) < l .lmin
+
+-- ---- "The pointer r begins at n+1 [..] Step r to r-1 while [..] Jump r to its left entry while [..]"
+module _ (l : PageLimits) (ws : List ℕ) (i : ℕ) where
+  abbrev p : Pages
+  p = pagesOf l ws
+
+  abbrev At : ℕ → Type 0
+  At r = Placed (taken l ws) (gap ws) (l .lmin) (l .lmax) (length ws + 1) i r
+
+  -- A step stays above the start: Gap(i, i+1) is 0.
+  pub step-above : (r : ℕ) → i < r → l .lmax < gap ws i r → i < r - 1
+  step-above r h over = ⊎-elim (λ g. absurd (omega (arith, gap-nought ws i r g))) (λ g. omega arith) (split r (suc i))
+
+  -- r stands where it is, or goes on one below
+  stay-or-step : (r : ℕ) → i < suc r → suc r ≤ length ws + 1 → At (suc r) → (i < r → At r → Stepped l ws i (steps (pagesOf l ws) i r .stands)) →
+      Stepped l ws i (steps (pagesOf l ws) i (suc r) .stands)
+  unfolding pagesOf
+  stay-or-step r above within at again = ⊎-elim stop more (split (gap ws i (suc r)) (l .lmax))
+    where
+      stop : gap ws i (suc r) ≤ l .lmax → Stepped l ws i (steps (pagesOf l ws) i (suc r) .stands)
+      stop h = rw (steps-stop p i (suc r) h) (record { above = above; within = within; allowed = h; placed = at })
+
+      one-less : suc r - 1 ≡ r
+      one-less = omega arith
+
+      more : l .lmax < gap ws i (suc r) → Stepped l ws i (steps (pagesOf l ws) i (suc r) .stands)
+      more h =
+          rw (steps-more p i (suc r) (omega arith) h, one-less)
+          (again (omega (arith, step-above (suc r) above h, one-less))
+          (placed-step (taken l ws) (gap ws) (gap-grows ws) (l .lmin) (l .lmax) (length ws + 1) i r h))
+
+  pub steps-stepped : (r : ℕ) → i < r → r ≤ length ws + 1 → At r → Stepped l ws i (steps (pagesOf l ws) i r .stands)
+  steps-stepped zero above within at = absurd (omega arith)
+  steps-stepped (suc r) above within at = stay-or-step r above within at (λ g h. steps-stepped r g (omega arith) h)
+
+  module _ (left : List ℕ) (falls : (k : ℕ) → 0 < entryAt left k → entryAt left k < k)
+      (lefts : (k : ℕ) → i < k → k ≤ length ws + 1 → Left (taken l ws) (suc i) k (entryAt left k)) where
+    -- r stands where it is, or goes on from its left entry
+    stay-or-jump : (r : ℕ) → Stepped l ws i r →
+        (entryAt left r < r → Stepped l ws i (entryAt left r) → Pointed l ws i left (jumps (pagesOf l ws) i left (entryAt left r) (entryAt left r) .stands)) →
+        Pointed l ws i left (jumps (pagesOf l ws) i left r r .stands)
+    unfolding pagesOf
+    stay-or-jump r s again =
+        ⊎-elim
+        (λ none. stop (λ f. absurd (omega arith)))
+        (λ entry. ⊎-elim (more entry) (λ near. stop (λ f. near)) (split (l .lmin) (gap ws i (entryAt left r))))
+        (split (entryAt left r) 0)
+      where
+        own : Left (taken l ws) (suc i) r (entryAt left r)
+        own = lefts r (s .above) (s .within)
+
+        stop : (0 < entryAt left r → gap ws i (entryAt left r) < l .lmin) → Pointed l ws i left (jumps (pagesOf l ws) i left r r .stands)
+        stop f = rw (jumps-stop p i left r r f) (record { stepped = s; stops = f })
+
+        more : 0 < entryAt left r → l .lmin ≤ gap ws i (entryAt left r) → Pointed l ws i left (jumps (pagesOf l ws) i left r r .stands)
+        more entry far =
+            rw (jumps-more p i left falls r entry far)
+            (again (falls r entry) (record {
+              above = own .from entry;
+              within = omega (arith, s .within, own .below);
+              allowed = omega (arith, s .allowed, gap-grows ws .far i (entryAt left r) r (omega (arith, own .below)));
+              placed = placed-jump (taken l ws) (gap ws) (gap-grows ws) (l .lmin) (l .lmax) (length ws + 1) i r (entryAt left r) own entry far (s .placed);
+            }))
+
+    jumps-from : (d r : ℕ) → r ≤ d → Stepped l ws i r → Pointed l ws i left (jumps (pagesOf l ws) i left r r .stands)
+    jumps-from zero r h s = absurd (omega (arith, s .above))
+    jumps-from (suc d) r h s = stay-or-jump r s (λ g t. jumps-from d (entryAt left r) (omega arith) t)
+
+    pub jumps-pointed : (r : ℕ) → Stepped l ws i r → Pointed l ws i left (jumps (pagesOf l ws) i left r r .stands)
+    jumps-pointed r s = jumps-from r r (omega arith) s
+
+-- ---- "from k = i+1, while best k > best i, Link k [..]; the k reached becomes the right of i"
+-- "The best of n+1 is 0": the linking ends there.
+pub best-last : (l : PageLimits) (ws : List ℕ) → Index.best l ws (length ws + 1) ≡ some 0
+unfolding Index.best index
+best-last l ws = Table.best-end (index l ws)
+
+pub links-end : (l : PageLimits) (ws : List ℕ) (i : ℕ) → leq (Index.best l ws (length ws + 1)) (Index.best l ws i) ≡ true
+links-end l ws i = rw (best-last l ws) (go (Index.best l ws i))
+  where
+    go : (c : Cost) → leq (some 0) c ≡ true
+    go none = refl
+    go (some v) = leb·zero v
+
+-- what the linking of start i leaves: the right of i, and the left entries
+pub record Joined (l : PageLimits) (ws : List ℕ) (i : ℕ) (left : List ℕ) (s : Linked) : Type 0 where
+  pub right : Right (taken l ws) (length ws + 1) i (s .reached)
+  pub lefts : (k : ℕ) → i < k → k ≤ length ws + 1 → Left (taken l ws) i k (entryAt (s .left) k)
+  pub size : length (s .left) ≡ length left
+  pub kept : (k : ℕ) → k ≤ i → entryAt (s .left) k ≡ entryAt left k
+
+module _ (l : PageLimits) (ws : List ℕ) (i : ℕ) (right : List ℕ)
+    (rights : (k : ℕ) → i < k → k ≤ length ws → Right (taken l ws) (length ws + 1) k (entryAt right k)) where
+  pub rises : (k : ℕ) → i < k → k < length ws + 1 → (k < entryAt right k) × (entryAt right k ≤ length ws + 1)
+  rises k h g = let r = rights k h (omega arith) in (r .above, r .within)
+
+  -- Link k: the linking goes on at the right of k.
+  pub link-on : (k : ℕ) (left : List ℕ) → length left ≡ length ws + 2 → Linking (taken l ws) (length ws + 1) i k (entryAt left) →
+      leq (Index.best l ws k) (Index.best l ws i) ≡ false → Linking (taken l ws) (length ws + 1) i (entryAt right k) (entryAt (set left k i))
+  unfolding pagesOf
+  link-on k left size at h =
+      linking-more (taken l ws) (length ws + 1) i k (entryAt left) at (entryAt right k) (entryAt (set left k i))
+      (larger largest (Index.best l ws) k i h)
+      (rights k (at .above) (omega (arith, links-early (pagesOf l ws) i right (length ws + 1) (links-end l ws i) rises k (at .within) h)))
+      (getD-set-same left k i 0 (omega (arith, at .within)))
+      (λ j ne. getD-set-other left k j i 0 ne)
+
+  abbrev Links : ℕ → List ℕ → Taken Linked
+  Links k left = links (pagesOf l ws) i right (length ws + 1 - k) k left
+
+  stay-or-link : (k : ℕ) (left : List ℕ) → length left ≡ length ws + 2 → Linking (taken l ws) (length ws + 1) i k (entryAt left) →
+      (k < entryAt right k → Linking (taken l ws) (length ws + 1) i (entryAt right k) (entryAt (set left k i)) →
+      Joined l ws i (set left k i) (Links (entryAt right k) (set left k i) .stands)) →
+      Joined l ws i left (Links k left .stands)
+  unfolding pagesOf
+  stay-or-link k left size at again = ⊎-elim stop more (tested (leq (Index.best l ws k) (Index.best l ws i)))
+    where
+      stop : leq (Index.best l ws k) (Index.best l ws i) ≡ true → Joined l ws i left (Links k left .stands)
+      stop h =
+          rw (links-stop (pagesOf l ws) i right (length ws + 1 - k) k left h)
+          (record {
+            right = linked-right (taken l ws) (length ws + 1) i k (entryAt left) at (not-larger (Index.best l ws) k i (at .above) h);
+            lefts = linked-left (taken l ws) (length ws + 1) i k (entryAt left) at (not-larger (Index.best l ws) k i (at .above) h);
+            size = refl;
+            kept = λ j g. refl;
+          })
+
+      next : leq (Index.best l ws k) (Index.best l ws i) ≡ false → Joined l ws i (set left k i) (Links (entryAt right k) (set left k i) .stands)
+      next h =
+          let early = links-early (pagesOf l ws) i right (length ws + 1) (links-end l ws i) rises k (at .within) h in
+          again (rises k (at .above) early .0) (link-on k left size at h)
+
+      more : leq (Index.best l ws k) (Index.best l ws i) ≡ false → Joined l ws i left (Links k left .stands)
+      more h =
+          rw (links-more (pagesOf l ws) i right (length ws + 1) (links-end l ws i) rises k left (at .above) (at .within) h)
+          (record {
+            right = next h .right;
+            lefts = next h .lefts;
+            size = next h .size ∙ length-set left k i;
+            kept = λ j g. next h .kept j g ∙ getD-set-other left k j i 0 (omega (arith, at .above));
+          })
+
+  links-from : (d k : ℕ) (left : List ℕ) → length ws + 1 < k + d → length left ≡ length ws + 2 → Linking (taken l ws) (length ws + 1) i k (entryAt left) →
+      Joined l ws i left (Links k left .stands)
+  links-from zero k left h size at = absurd (omega (arith, at .within))
+  links-from (suc d) k left h size at =
+      stay-or-link k left size at (λ g next. links-from d (entryAt right k) (set left k i) (omega arith) (length-set left k i ∙ size) next)
+
+  -- The linking of start i, from k = i + 1 on.
+  pub links-joined : (left : List ℕ) → length left ≡ length ws + 2 → i ≤ length ws →
+      ((k : ℕ) → i < k → k ≤ length ws + 1 → Left (taken l ws) (suc i) k (entryAt left k)) →
+      Joined l ws i left (links (pagesOf l ws) i right (length ws) (suc i) left .stands)
+  unfolding pagesOf
+  links-joined left size low lefts =
+      rw (links-enough (pagesOf l ws) i right (length ws + 1) (links-end l ws i) rises (length ws) (length ws + 1 - suc i) (suc i) left
+      (omega arith) (omega arith) (omega arith) (omega arith))
+      (links-from (length ws + 1) (suc i) left (omega arith) size (linking-first (taken l ws) (length ws + 1) i (entryAt left) (omega arith) lefts))
+
+-- ---- all starts
+noughts : (n k : ℕ) → entryAt (replicate n 0) k ≡ 0
+noughts n k =
+    ⊎-elim (λ h. List·getD-eq-default (replicate n 0) 0 {n = k} (omega (arith, length-replicate {A = ℕ} n 0))) (λ h. getD-replicate n k 0 0 h) (split n k)
+
+module _ (l : PageLimits) (ws : List ℕ) where
+  -- a left entry is smaller than its index
+  pub ready-falls : (i : ℕ) (s : Pointing) → Ready l ws i s → (k : ℕ) → 0 < entryAt (s .left) k → entryAt (s .left) k < k
+  ready-falls i s ready k h =
+      ⊎-elim
+      (λ g. absurd (omega (arith, ready .left-open k g)))
+      (λ g. ⊎-elim
+      (λ f. ready .left k g f .below)
+      (λ f. absurd (omega (arith, List·getD-eq-default (s .left) 0 {n = k} (omega (arith, ready .left-length)))))
+      (split k (length ws + 1)))
+      (split k i)
+
+  pub ready-pointed : (i : ℕ) (s : Pointing) → Ready l ws i s → Pointed l ws i (s .left) (pointed (pagesOf l ws) i (s .left) (s .pointer) .stands)
+  unfolding pointed
+  ready-pointed i s ready =
+      jumps-pointed l ws i (s .left) (ready-falls i s ready) (ready .left) (steps (pagesOf l ws) i (s .pointer) .stands)
+      (steps-stepped l ws i (s .pointer) (ready .above) (ready .within) (ready .placed))
+
+  -- Start i has nothing to link, at 0, or links; then the next start is ready.
+  ready-linked : (i : ℕ) (s : Pointing) (r : ℕ) → i ≤ length ws → Ready l ws i s → Pointed l ws i (s .left) r →
+      Ready l ws (i - 1) (linked (pagesOf l ws) (length ws) i (s .left) (s .right) r .stands)
+  unfolding linked
+  ready-linked zero s r low ready at = record {
+    above = at .stepped .above;
+    within = at .stepped .within;
+    left-length = ready .left-length;
+    right-length = ready .right-length;
+    left = ready .left;
+    right = ready .right;
+    left-open = ready .left-open;
+    right-open = ready .right-open;
+    right-end = ready .right-end;
+    placed = at .stepped .placed;
+  }
+  ready-linked (suc i) s r low ready at = rw less (record {
+    above = omega (arith, at .stepped .above);
+    within = at .stepped .within;
+    left-length = joins .size ∙ ready .left-length;
+    right-length = length-set (s .right) (suc i) (t .reached) ∙ ready .right-length;
+    left = lefts;
+    right = rights;
+    left-open = λ k h. joins .kept k (omega arith) ∙ ready .left-open k (omega arith);
+    right-open = λ k h. getD-set-other (s .right) (suc i) k (t .reached) 0 (omega arith) ∙ ready .right-open k (omega arith);
+    right-end = getD-set-other (s .right) (suc i) (length ws + 1) (t .reached) 0 (omega arith) ∙ ready .right-end;
+    placed = placed-next (taken l ws) (gap ws) (gap-grows ws) (l .lmin) (l .lmax) (length ws + 1) i (suc i) r (omega arith) (at .stepped .placed);
+  })
+    where
+      less : suc i - 1 ≡ i
+      less = omega arith
+
+      t : Linked
+      t = links (pagesOf l ws) (suc i) (s .right) (length ws) (suc (suc i)) (s .left) .stands
+
+      joins : Joined l ws (suc i) (s .left) t
+      joins = links-joined l ws (suc i) (s .right) (ready .right) (s .left) (ready .left-length) low (ready .left)
+
+      first : Left (taken l ws) (suc i) (suc i) (entryAt (t .left) (suc i))
+      first = rw (joins .kept (suc i) (omega arith), ready .left-open (suc i) (omega arith)) (left-first (taken l ws) (suc i) (omega arith))
+
+      lefts : (k : ℕ) → i < k → k ≤ length ws + 1 → Left (taken l ws) (suc i) k (entryAt (t .left) k)
+      lefts k g h =
+          ⊎-elim
+          (λ f. subst (λ (z : ℕ). Left (taken l ws) (suc i) z (entryAt (t .left) z)) (omega arith) first)
+          (λ f. joins .lefts k f h)
+          (split k (suc i))
+
+      own : Right (taken l ws) (length ws + 1) (suc i) (entryAt (set (s .right) (suc i) (t .reached)) (suc i))
+      own = rw (getD-set-same (s .right) (suc i) (t .reached) 0 (omega (arith, ready .right-length))) (joins .right)
+
+      rights : (k : ℕ) → i < k → k ≤ length ws → Right (taken l ws) (length ws + 1) k (entryAt (set (s .right) (suc i) (t .reached)) k)
+      rights k g h =
+          ⊎-elim
+          (λ f. subst (λ (z : ℕ). Right (taken l ws) (length ws + 1) z (entryAt (set (s .right) (suc i) (t .reached)) z)) (omega arith) own)
+          (λ f. rw (getD-set-other (s .right) (suc i) k (t .reached) 0 (omega arith)) (ready .right k f h))
+          (split k (suc i))
+
+  pub ready-next : (i : ℕ) (s : Pointing) → i ≤ length ws → Ready l ws i s → Ready l ws (i - 1) (atStart (pagesOf l ws) (length ws) i s .stands)
+  unfolding atStart
+  ready-next i s low ready = ready-linked i s (pointed (pagesOf l ws) i (s .left) (s .pointer) .stands) low ready (ready-pointed i s ready)
+
+  ready-first : Ready l ws (length ws) (record { pointer = length ws + 1; left = replicate (length ws + 2) 0; right = replicate (length ws + 2) 0 })
+  ready-first = record {
+    above = omega arith;
+    within = omega arith;
+    left-length = length-replicate {A = ℕ} (length ws + 2) 0;
+    right-length = length-replicate {A = ℕ} (length ws + 2) 0;
+    left = λ k g h. subst (λ (z : ℕ). Left (taken l ws) (suc (length ws)) z (entryAt (replicate (length ws + 2) 0) z)) (omega arith) last;
+    right = λ k g h. absurd (omega arith);
+    left-open = λ k h. noughts (length ws + 2) k;
+    right-open = λ k h. noughts (length ws + 2) k;
+    right-end = noughts (length ws + 2) (length ws + 1);
+    placed = placed-first (taken l ws) (gap ws) (gap-grows ws) (l .lmin) (l .lmax) (length ws + 1) (length ws);
+  }
+    where
+      last : Left (taken l ws) (suc (length ws)) (suc (length ws)) (entryAt (replicate (length ws + 2) 0) (suc (length ws)))
+      last = rw (noughts (length ws + 2) (suc (length ws))) (left-first (taken l ws) (suc (length ws)) (omega arith))
+
+  -- What stands after the first d starts: start n - d is ready. (After the last, what stood before it.)
+  pub ready : (d : ℕ) → Ready l ws (length ws - d) (afterStarts (pagesOf l ws) (length ws) d .stands)
+  unfolding afterStarts
+  ready zero = let e : length ws - 0 ≡ length ws = omega arith in rw e ready-first
+  ready (suc d) =
+      let e : length ws - suc d ≡ length ws - d - 1 = omega arith in
+      rw e (ready-next (length ws - d) (afterStarts (pagesOf l ws) (length ws) d .stands) (omega arith) (ready d))
