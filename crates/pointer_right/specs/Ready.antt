@@ -78,9 +78,6 @@ pub record Pointed (l : PageLimits) (ws : List ℕ) (i : ℕ) (left : List ℕ) 
 
 -- ---- "The pointer r begins at n+1 [..] Step r to r-1 while [..] Jump r to its left entry while [..]"
 module _ (l : PageLimits) (ws : List ℕ) (i : ℕ) where
-  abbrev p : Pages
-  p = pagesOf l ws
-
   abbrev At : ℕ → Type 0
   At r = Placed (taken l ws) (gap ws) (l .lmin) (l .lmax) (length ws + 1) i r
 
@@ -91,18 +88,17 @@ module _ (l : PageLimits) (ws : List ℕ) (i : ℕ) where
   -- r stands where it is, or goes on one below
   stay-or-step : (r : ℕ) → i < suc r → suc r ≤ length ws + 1 → At (suc r) → (i < r → At r → Stepped l ws i (steps (pagesOf l ws) i r .stands)) →
       Stepped l ws i (steps (pagesOf l ws) i (suc r) .stands)
-  unfolding pagesOf
   stay-or-step r above within at again = ⊎-elim stop more (split (gap ws i (suc r)) (l .lmax))
     where
       stop : gap ws i (suc r) ≤ l .lmax → Stepped l ws i (steps (pagesOf l ws) i (suc r) .stands)
-      stop h = rw (steps-stop p i (suc r) h) (record { above = above; within = within; allowed = h; placed = at })
+      stop h = rw (steps-stop l ws i (suc r) h) (record { above = above; within = within; allowed = h; placed = at })
 
       one-less : suc r - 1 ≡ r
       one-less = omega arith
 
       more : l .lmax < gap ws i (suc r) → Stepped l ws i (steps (pagesOf l ws) i (suc r) .stands)
       more h =
-          rw (steps-more p i (suc r) (omega arith) h, one-less)
+          rw (steps-more l ws i (suc r) (omega arith) h, one-less)
           (again (omega (arith, step-above (suc r) above h, one-less))
           (placed-step (taken l ws) (gap ws) (gap-grows ws) (l .lmin) (l .lmax) (length ws + 1) i r h))
 
@@ -116,7 +112,6 @@ module _ (l : PageLimits) (ws : List ℕ) (i : ℕ) where
     stay-or-jump : (r : ℕ) → Stepped l ws i r →
         (entryAt left r < r → Stepped l ws i (entryAt left r) → Pointed l ws i left (jumps (pagesOf l ws) i left (entryAt left r) (entryAt left r) .stands)) →
         Pointed l ws i left (jumps (pagesOf l ws) i left r r .stands)
-    unfolding pagesOf
     stay-or-jump r s again =
         ⊎-elim
         (λ none. stop (λ f. absurd (omega arith)))
@@ -127,11 +122,11 @@ module _ (l : PageLimits) (ws : List ℕ) (i : ℕ) where
         own = lefts r (s .above) (s .within)
 
         stop : (0 < entryAt left r → gap ws i (entryAt left r) < l .lmin) → Pointed l ws i left (jumps (pagesOf l ws) i left r r .stands)
-        stop f = rw (jumps-stop p i left r r f) (record { stepped = s; stops = f })
+        stop f = rw (jumps-stop l ws i left r r f) (record { stepped = s; stops = f })
 
         more : 0 < entryAt left r → l .lmin ≤ gap ws i (entryAt left r) → Pointed l ws i left (jumps (pagesOf l ws) i left r r .stands)
         more entry far =
-            rw (jumps-more p i left falls r entry far)
+            rw (jumps-more l ws i left falls r entry far)
             (again (falls r entry) (record {
               above = own .from entry;
               within = omega (arith, s .within, own .below);
@@ -147,18 +142,6 @@ module _ (l : PageLimits) (ws : List ℕ) (i : ℕ) where
     jumps-pointed r s = jumps-from r r (omega arith) s
 
 -- ---- "from k = i+1, while best k > best i, Link k [..]; the k reached becomes the right of i"
--- "The best of n+1 is 0": the linking ends there.
-pub best-last : (l : PageLimits) (ws : List ℕ) → Index.best l ws (length ws + 1) ≡ some 0
-unfolding Index.best index
-best-last l ws = Table.best-end (index l ws)
-
-pub links-end : (l : PageLimits) (ws : List ℕ) (i : ℕ) → leq (Index.best l ws (length ws + 1)) (Index.best l ws i) ≡ true
-links-end l ws i = rw (best-last l ws) (go (Index.best l ws i))
-  where
-    go : (c : Cost) → leq (some 0) c ≡ true
-    go none = refl
-    go (some v) = leb·zero v
-
 -- what the linking of start i leaves: the right of i, and the left entries
 pub record Joined (l : PageLimits) (ws : List ℕ) (i : ℕ) (left : List ℕ) (s : Linked) : Type 0 where
   pub right : Right (taken l ws) (length ws + 1) i (s .reached)
@@ -168,17 +151,16 @@ pub record Joined (l : PageLimits) (ws : List ℕ) (i : ℕ) (left : List ℕ) (
 
 module _ (l : PageLimits) (ws : List ℕ) (i : ℕ) (right : List ℕ)
     (rights : (k : ℕ) → i < k → k ≤ length ws → Right (taken l ws) (length ws + 1) k (entryAt right k)) where
-  pub rises : (k : ℕ) → i < k → k < length ws + 1 → (k < entryAt right k) × (entryAt right k ≤ length ws + 1)
-  rises k h g = let r = rights k h (omega arith) in (r .above, r .within)
+  pub rises : (k : ℕ) → i < k → k ≤ length ws → (k < entryAt right k) × (entryAt right k ≤ length ws + 1)
+  rises k h g = let r = rights k h g in (r .above, r .within)
 
   -- Link k: the linking goes on at the right of k.
   pub link-on : (k : ℕ) (left : List ℕ) → length left ≡ length ws + 2 → Linking (taken l ws) (length ws + 1) i k (entryAt left) →
       leq (Index.best l ws k) (Index.best l ws i) ≡ false → Linking (taken l ws) (length ws + 1) i (entryAt right k) (entryAt (set left k i))
-  unfolding pagesOf
   link-on k left size at h =
       linking-more (taken l ws) (length ws + 1) i k (entryAt left) at (entryAt right k) (entryAt (set left k i))
       (larger largest (Index.best l ws) k i h)
-      (rights k (at .above) (omega (arith, links-early (pagesOf l ws) i right (length ws + 1) (links-end l ws i) rises k (at .within) h)))
+      (rights k (at .above) (links-early l ws i right rises k (at .within) h))
       (getD-set-same left k i 0 (omega (arith, at .within)))
       (λ j ne. getD-set-other left k j i 0 ne)
 
@@ -189,12 +171,11 @@ module _ (l : PageLimits) (ws : List ℕ) (i : ℕ) (right : List ℕ)
       (k < entryAt right k → Linking (taken l ws) (length ws + 1) i (entryAt right k) (entryAt (set left k i)) →
       Joined l ws i (set left k i) (Links (entryAt right k) (set left k i) .stands)) →
       Joined l ws i left (Links k left .stands)
-  unfolding pagesOf
   stay-or-link k left size at again = ⊎-elim stop more (tested (leq (Index.best l ws k) (Index.best l ws i)))
     where
       stop : leq (Index.best l ws k) (Index.best l ws i) ≡ true → Joined l ws i left (Links k left .stands)
       stop h =
-          rw (links-stop (pagesOf l ws) i right (length ws + 1 - k) k left h)
+          rw (links-stop l ws i right (length ws + 1 - k) k left h)
           (record {
             right = linked-right (taken l ws) (length ws + 1) i k (entryAt left) at (not-larger (Index.best l ws) k i (at .above) h);
             lefts = linked-left (taken l ws) (length ws + 1) i k (entryAt left) at (not-larger (Index.best l ws) k i (at .above) h);
@@ -204,12 +185,12 @@ module _ (l : PageLimits) (ws : List ℕ) (i : ℕ) (right : List ℕ)
 
       next : leq (Index.best l ws k) (Index.best l ws i) ≡ false → Joined l ws i (set left k i) (Links (entryAt right k) (set left k i) .stands)
       next h =
-          let early = links-early (pagesOf l ws) i right (length ws + 1) (links-end l ws i) rises k (at .within) h in
+          let early = links-early l ws i right rises k (at .within) h in
           again (rises k (at .above) early .0) (link-on k left size at h)
 
       more : leq (Index.best l ws k) (Index.best l ws i) ≡ false → Joined l ws i left (Links k left .stands)
       more h =
-          rw (links-more (pagesOf l ws) i right (length ws + 1) (links-end l ws i) rises k left (at .above) (at .within) h)
+          rw (links-more l ws i right rises k left (at .above) (at .within) h)
           (record {
             right = next h .right;
             lefts = next h .lefts;
@@ -227,9 +208,8 @@ module _ (l : PageLimits) (ws : List ℕ) (i : ℕ) (right : List ℕ)
   pub links-joined : (left : List ℕ) → length left ≡ length ws + 2 → i ≤ length ws →
       ((k : ℕ) → i < k → k ≤ length ws + 1 → Left (taken l ws) (suc i) k (entryAt left k)) →
       Joined l ws i left (links (pagesOf l ws) i right (length ws) (suc i) left .stands)
-  unfolding pagesOf
   links-joined left size low lefts =
-      rw (links-enough (pagesOf l ws) i right (length ws + 1) (links-end l ws i) rises (length ws) (length ws + 1 - suc i) (suc i) left
+      rw (links-enough l ws i right rises (length ws) (length ws + 1 - suc i) (suc i) left
       (omega arith) (omega arith) (omega arith) (omega arith))
       (links-from (length ws + 1) (suc i) left (omega arith) size (linking-first (taken l ws) (length ws + 1) i (entryAt left) (omega arith) lefts))
 
