@@ -34,7 +34,7 @@ ahead-refl : (tie : Tie) (k : ℕ) → Ahead tie k k
 ahead-refl smallest k = omega arith
 ahead-refl largest k = omega arith
 
-same? : (j k : ℕ) → (j ≡ k) ⊎ (j ≢ k)
+pub same? : (j k : ℕ) → (j ≡ k) ⊎ (j ≢ k)
 same? j k = ⊎-elim (λ h. ⊎-elim (λ g. inl (omega arith)) (λ g. inr (omega arith)) (split k j)) (λ h. inr (omega arith)) (split j k)
 
 ahead-trans : (tie : Tie) (i j k : ℕ) → Ahead tie i j → Ahead tie j k → Ahead tie i k

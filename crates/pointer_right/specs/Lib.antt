@@ -2,3 +2,4 @@
 -- says, and the count of moves. None assumes anything but what each law states.
 pub mod Turns
 pub mod Ready
+pub mod Choice

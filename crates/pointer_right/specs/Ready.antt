@@ -151,7 +151,7 @@ pub record Joined (l : PageLimits) (ws : List ℕ) (i : ℕ) (left : List ℕ) (
 
 module _ (l : PageLimits) (ws : List ℕ) (i : ℕ) (right : List ℕ)
     (rights : (k : ℕ) → i < k → k ≤ length ws → Right (taken l ws) (length ws + 1) k (entryAt right k)) where
-  pub rises : (k : ℕ) → i < k → k ≤ length ws → (k < entryAt right k) × (entryAt right k ≤ length ws + 1)
+  rises : (k : ℕ) → i < k → k ≤ length ws → (k < entryAt right k) × (entryAt right k ≤ length ws + 1)
   rises k h g = let r = rights k h g in (r .above, r .within)
 
   -- Link k: the linking goes on at the right of k.
@@ -229,6 +229,10 @@ module _ (l : PageLimits) (ws : List ℕ) where
       (λ f. absurd (omega (arith, List·getD-eq-default (s .left) 0 {n = k} (omega (arith, ready .left-length)))))
       (split k (length ws + 1)))
       (split k i)
+
+  -- a right entry is larger than its index, up to the end
+  pub ready-rises : (i : ℕ) (s : Pointing) → Ready l ws i s → (k : ℕ) → i < k → k ≤ length ws → (k < entryAt (s .right) k) × (entryAt (s .right) k ≤ length ws + 1)
+  ready-rises i s ready k h g = let r = ready .right k h g in (r .above, r .within)
 
   pub ready-pointed : (i : ℕ) (s : Pointing) → Ready l ws i s → Pointed l ws i (s .left) (pointed (pagesOf l ws) i (s .left) (s .pointer) .stands)
   unfolding pointed
@@ -322,3 +326,11 @@ module _ (l : PageLimits) (ws : List ℕ) where
   ready (suc d) =
       let e : length ws - suc d ≡ length ws - d - 1 = omega arith in
       rw e (ready-next (length ws - d) (afterStarts (pagesOf l ws) (length ws) d .stands) (omega arith) (ready d))
+
+  -- before start i
+  pub ready-at : (i : ℕ) → i ≤ length ws → Ready l ws i (afterStarts (pagesOf l ws) (length ws) (length ws - i) .stands)
+  ready-at i low = subst (λ (j : ℕ). Ready l ws j (afterStarts (pagesOf l ws) (length ws) (length ws - i) .stands)) (omega arith) (ready (length ws - i))
+
+  -- after all starts
+  pub ready-all : Ready l ws 0 (afterStarts (pagesOf l ws) (length ws) (length ws + 1) .stands)
+  ready-all = subst (λ (j : ℕ). Ready l ws j (afterStarts (pagesOf l ws) (length ws) (length ws + 1) .stands)) (omega arith) (ready (length ws + 1))
