@@ -3,3 +3,4 @@
 pub mod Turns
 pub mod Ready
 pub mod Choice
+pub mod Entries
