@@ -4,3 +4,4 @@ pub mod Turns
 pub mod Ready
 pub mod Choice
 pub mod Entries
+pub mod Count
