@@ -15,8 +15,8 @@ use Rattle.paper.specs.Index as Index
 use Rattle.paper.specs.Index.{gap}
 use Rattle.paper.specs.Moves.{Taken}
 use Rattle.paper.specs.PointerRules.{pagesOf, entryAt, steps, jumps, Linked, links, Pointing, pointed, linked, atStart, afterStarts, pointerAt, pointerMoves}
-use Rattle.pointer_right.specs.Turns.{steps-more, steps-stop, jumps-more, jumps-stop, links-more, links-stop, links-early, links-enough}
-use Rattle.pointer_right.specs.Ready.{taken, Ready, Pointed, link-on, ready-falls, ready-rises, ready-pointed, ready}
+use Rattle.pointer_right.specs.Turns.{steps-by, jumps-by, links-by}
+use Rattle.pointer_right.specs.Ready.{taken, Ready, link-on, ready-falls, ready}
 
 -- ---- the indices that have no left entry
 unfoldable pub unlinked : List ℕ → ℕ
@@ -50,86 +50,95 @@ unlinked-two (suc a ∷ b ∷ left) h e f = absurd (omega arith)
 -- ---- each rule
 module _ (l : PageLimits) (ws : List ℕ) (i : ℕ) where
   -- a Step takes one from the pointer
-  steps-one : (r : ℕ) → length (steps (pagesOf l ws) i r .moves) + steps (pagesOf l ws) i r .stands ≡ r →
-      length (steps (pagesOf l ws) i (suc r) .moves) + steps (pagesOf l ws) i (suc r) .stands ≡ suc r
-  steps-one r rest = ⊎-elim stop more (split (gap ws i (suc r)) (l .lmax))
-    where
-      less : suc r - 1 ≡ r
-      less = omega arith
-
-      stop : gap ws i (suc r) ≤ l .lmax → length (steps (pagesOf l ws) i (suc r) .moves) + steps (pagesOf l ws) i (suc r) .stands ≡ suc r
-      stop h = rw (steps-stop l ws i (suc r) h) (omega arith)
-
-      more : l .lmax < gap ws i (suc r) → length (steps (pagesOf l ws) i (suc r) .moves) + steps (pagesOf l ws) i (suc r) .stands ≡ suc r
-      more h = rw (steps-more l ws i (suc r) (omega arith) h, less) (omega arith)
-
   pub steps-count : (r : ℕ) → length (steps (pagesOf l ws) i r .moves) + steps (pagesOf l ws) i r .stands ≡ r
-  unfolding steps
-  steps-count zero = refl
-  steps-count (suc r) = steps-one r (steps-count r)
+  steps-count = steps-by l ws i (λ r t. length (t .moves) + t .stands ≡ r) (λ r h. omega arith) (λ r t h rest. omega arith)
 
   -- a Jump takes at least one
-  module _ (left : List ℕ) (falls : (k : ℕ) → 0 < entryAt left k → entryAt left k < k) where
-    abbrev Within : ℕ → Type 0
-    Within r = length (jumps (pagesOf l ws) i left r r .moves) + jumps (pagesOf l ws) i left r r .stands ≤ r
-
-    jumps-one : (r : ℕ) → (entryAt left r < r → Within (entryAt left r)) → Within r
-    jumps-one r again =
-        ⊎-elim
-        (λ none. stop (λ f. absurd (omega arith)))
-        (λ entry. ⊎-elim (more entry) (λ near. stop (λ f. near)) (split (l .lmin) (gap ws i (entryAt left r))))
-        (split (entryAt left r) 0)
-      where
-        stop : (0 < entryAt left r → gap ws i (entryAt left r) < l .lmin) → Within r
-        stop f = rw (jumps-stop l ws i left r r f) (omega arith)
-
-        more : 0 < entryAt left r → l .lmin ≤ gap ws i (entryAt left r) → Within r
-        more entry far = rw (jumps-more l ws i left falls r entry far) (omega (arith, falls r entry, again (falls r entry)))
-
-    jumps-from : (d r : ℕ) → r < d → Within r
-    jumps-from zero r h = absurd (omega arith)
-    jumps-from (suc d) r h = jumps-one r (λ g. jumps-from d (entryAt left r) (omega arith))
-
-    pub jumps-count : (r : ℕ) → length (jumps (pagesOf l ws) i left r r .moves) + jumps (pagesOf l ws) i left r r .stands ≤ r
-    jumps-count r = jumps-from (suc r) r (omega arith)
+  pub jumps-count : (left : List ℕ) → ((k : ℕ) → 0 < entryAt left k → entryAt left k < k) → (r : ℕ) →
+      length (jumps (pagesOf l ws) i left r r .moves) + jumps (pagesOf l ws) i left r r .stands ≤ r
+  jumps-count left falls =
+      jumps-by l ws i left falls (λ r t. length (t .moves) + t .stands ≤ r) (λ r h. omega arith) (λ r t entry far rest. omega (arith, falls r entry))
 
   -- a Link takes one from the indices that have no left entry
-  module _ (right : List ℕ) (rights : (k : ℕ) → i < k → k ≤ length ws → Right (taken l ws) (length ws + 1) k (entryAt right k)) (pos : 1 ≤ i) where
-    abbrev Links : ℕ → List ℕ → Taken Linked
-    Links k left = links (pagesOf l ws) i right (length ws + 1 - k) k left
+  pub links-count : (right : List ℕ) → ((k : ℕ) → i < k → k ≤ length ws → Right (taken l ws) (length ws + 1) k (entryAt right k)) →
+      (left : List ℕ) → length left ≡ length ws + 2 → 1 ≤ i → i ≤ length ws → ((k : ℕ) → i < k → k ≤ length ws + 1 → Left (taken l ws) (suc i) k (entryAt left k)) →
+      length (links (pagesOf l ws) i right (length ws) (suc i) left .moves) + unlinked (links (pagesOf l ws) i right (length ws) (suc i) left .stands .left)
+      ≡ unlinked left
+  links-count right rights left size pos low lefts =
+      links-by l ws i right (λ k h g. let r = rights k h g in (r .above, r .within))
+      (λ k left t. length left ≡ length ws + 2 → Linking (taken l ws) (length ws + 1) i k (entryAt left) → length (t .moves) + unlinked (t .stands .left) ≡ unlinked left)
+      (λ k left above within e size at. omega arith)
+      (λ k left t above early e rest size at.
+      omega (arith, rest (length-set left k i ∙ size) (link-on l ws i right rights k left size at e),
+      unlinked-set left k i (no-entry (taken l ws) (length ws + 1) i k (entryAt left) at) (omega arith) pos))
+      left low size (linking-first (taken l ws) (length ws + 1) i (entryAt left) (omega arith) lefts)
 
-    rises : (k : ℕ) → i < k → k ≤ length ws → (k < entryAt right k) × (entryAt right k ≤ length ws + 1)
-    rises k h g = let r = rights k h g in (r .above, r .within)
+-- ---- each start
+-- What the moves are paid from: the pointer, and the indices that have no left entry.
+unfoldable pub potential : Pointing → ℕ
+potential s = s .pointer + unlinked (s .left)
 
-    links-one : (k : ℕ) (left : List ℕ) → length left ≡ length ws + 2 → Linking (taken l ws) (length ws + 1) i k (entryAt left) →
-        (k < entryAt right k → Linking (taken l ws) (length ws + 1) i (entryAt right k) (entryAt (set left k i)) →
-        length (Links (entryAt right k) (set left k i) .moves) + unlinked (Links (entryAt right k) (set left k i) .stands .left) ≡ unlinked (set left k i)) →
-        length (Links k left .moves) + unlinked (Links k left .stands .left) ≡ unlinked left
-    links-one k left size at again = ⊎-elim stop more (tested (leq (Index.best l ws k) (Index.best l ws i)))
-      where
-        stop : leq (Index.best l ws k) (Index.best l ws i) ≡ true → length (Links k left .moves) + unlinked (Links k left .stands .left) ≡ unlinked left
-        stop h = rw (links-stop l ws i right (length ws + 1 - k) k left h) (omega arith)
+module _ (l : PageLimits) (ws : List ℕ) where
+  -- three are never spent: the pointer stays above 0, and 0 and 1 are not linked
+  pub potential-low : (i : ℕ) (s : Pointing) → Ready l ws i s → 3 ≤ potential s
+  unfolding potential
+  potential-low i s ready = omega (arith, ready .above, unlinked-two (s .left) (omega (arith, ready .left-length)) (ready .left-open 0 (omega arith)) (at-one i s ready))
+    where
+      at-one : (i : ℕ) (s : Pointing) → Ready l ws i s → entryAt (s .left) 1 ≡ 0
+      at-one zero s ready = omega (arith, ready .left 1 (omega arith) (omega arith) .below)
+      at-one (suc i) s ready = ready .left-open 1 (omega arith)
 
-        one : suc (unlinked (set left k i)) ≡ unlinked left
-        one = unlinked-set left k i (no-entry (taken l ws) (length ws + 1) i k (entryAt left) at) (omega (arith, at .within)) pos
+  pointed-count : (i : ℕ) (s : Pointing) → Ready l ws i s →
+      length (pointed (pagesOf l ws) i (s .left) (s .pointer) .moves) + pointed (pagesOf l ws) i (s .left) (s .pointer) .stands ≤ s .pointer
+  unfolding pointed
+  pointed-count i s ready =
+      let a = steps (pagesOf l ws) i (s .pointer) in
+      let b = jumps (pagesOf l ws) i (s .left) (a .stands) (a .stands) in
+      omega (arith, length-append (a .moves) (b .moves), steps-count l ws i (s .pointer), jumps-count l ws i (s .left) (ready-falls l ws i s ready) (a .stands))
 
-        more : leq (Index.best l ws k) (Index.best l ws i) ≡ false → length (Links k left .moves) + unlinked (Links k left .stands .left) ≡ unlinked left
-        more h =
-            let early = links-early l ws i right rises k (at .within) h in
-            let rest = again (rises k (at .above) early .0) (link-on l ws i right rights k left size at h) in
-            rw (links-more l ws i right rises k left (at .above) (at .within) h) (omega (arith, one, rest))
+  linked-count : (i : ℕ) (s : Pointing) (r : ℕ) → i ≤ length ws → Ready l ws i s →
+      length (linked (pagesOf l ws) (length ws) i (s .left) (s .right) r .moves) + potential (linked (pagesOf l ws) (length ws) i (s .left) (s .right) r .stands)
+      ≡ r + unlinked (s .left)
+  unfolding linked potential
+  linked-count zero s r low ready = omega arith
+  linked-count (suc i) s r low ready =
+      let t = links (pagesOf l ws) (suc i) (s .right) (length ws) (suc (suc i)) (s .left) in
+      omega (arith, length-append (t .moves) [], links-count l ws (suc i) (s .right) (ready .right) (s .left) (ready .left-length) (omega arith) low (ready .left))
 
-    links-from : (d k : ℕ) (left : List ℕ) → length ws + 1 < k + d → length left ≡ length ws + 2 → Linking (taken l ws) (length ws + 1) i k (entryAt left) →
-        length (Links k left .moves) + unlinked (Links k left .stands .left) ≡ unlinked left
-    links-from zero k left h size at = absurd (omega (arith, at .within))
-    links-from (suc d) k left h size at =
-        links-one k left size at (λ g next. links-from d (entryAt right k) (set left k i) (omega arith) (length-set left k i ∙ size) next)
+  -- The moves of a start are paid from what stands.
+  pub start-count : (i : ℕ) (s : Pointing) → i ≤ length ws → Ready l ws i s →
+      length (atStart (pagesOf l ws) (length ws) i s .moves) + potential (atStart (pagesOf l ws) (length ws) i s .stands) ≤ potential s
+  unfolding atStart potential
+  start-count i s low ready =
+      let a = pointed (pagesOf l ws) i (s .left) (s .pointer) in
+      let b = linked (pagesOf l ws) (length ws) i (s .left) (s .right) (a .stands) in
+      omega (arith, length-append (a .moves) (b .moves), pointed-count i s ready, linked-count i s (a .stands) low ready)
 
-    pub links-count : (left : List ℕ) → length left ≡ length ws + 2 → i ≤ length ws →
-        ((k : ℕ) → i < k → k ≤ length ws + 1 → Left (taken l ws) (suc i) k (entryAt left k)) →
-        length (links (pagesOf l ws) i right (length ws) (suc i) left .moves) + unlinked (links (pagesOf l ws) i right (length ws) (suc i) left .stands .left)
-        ≡ unlinked left
-    links-count left size low lefts =
-        rw (links-enough l ws i right rises (length ws) (length ws + 1 - suc i) (suc i) left
-        (omega arith) (omega arith) (omega arith) (omega arith))
-        (links-from (length ws + 1) (suc i) left (omega arith) size (linking-first (taken l ws) (length ws + 1) i (entryAt left) (omega arith) lefts))
+  -- ---- all starts
+  pub starts-paid : (d : ℕ) →
+      length (afterStarts (pagesOf l ws) (length ws) d .moves) + potential (afterStarts (pagesOf l ws) (length ws) d .stands) ≤ 2 * length ws + 3
+  unfolding afterStarts potential
+  starts-paid zero = omega (arith, unlinked-all (length ws + 2))
+  starts-paid (suc d) =
+      let a = afterStarts (pagesOf l ws) (length ws) d in
+      let b = atStart (pagesOf l ws) (length ws) (length ws - d) (a .stands) in
+      omega (arith, length-append (a .moves) (b .moves), starts-paid d, start-count (length ws - d) (a .stands) (omega arith) (ready l ws d))
+
+  -- the moves of the first d starts
+  pub starts-count : (d : ℕ) → length (afterStarts (pagesOf l ws) (length ws) d .moves) ≤ 2 * length ws
+  starts-count d =
+      omega (arith, starts-paid d, potential-low (length ws - d) (afterStarts (pagesOf l ws) (length ws) d .stands) (ready l ws d))
+
+  -- the moves of the first d starts, and of the next
+  pub start-room : (d : ℕ) →
+      length (afterStarts (pagesOf l ws) (length ws) d .moves)
+      + length (atStart (pagesOf l ws) (length ws) (length ws - d) (afterStarts (pagesOf l ws) (length ws) d .stands) .moves) ≤ 2 * length ws
+  unfolding afterStarts
+  start-room d =
+      let a = afterStarts (pagesOf l ws) (length ws) d in
+      omega (arith, starts-count (suc d), length-append (a .moves) (atStart (pagesOf l ws) (length ws) (length ws - d) (a .stands) .moves))
+
+  -- Demand 3: at most 2n moves.
+  pub pointer-count : length (pointerMoves l ws) ≤ 2 * length ws
+  unfolding pointerMoves
+  pointer-count = starts-count (length ws + 1)

@@ -22,13 +22,9 @@ use Rattle.paper.specs.Allowed.{pageLimitsHold, Passed}
 use Rattle.paper.specs.Scale.{upTo-le, gap-scale}
 use Rattle.paper.specs.Moves.{Taken, still, joined}
 use Rattle.paper.specs.PointerRules.{Pages, pagesOf, entryAt, steps, jumps, Linked, links, Pointing, pointed, linked, atStart, afterStarts}
-use Rattle.pointer_right.specs.Turns.{steps-more, steps-stop, jumps-more, jumps-stop, links-more, links-stop, links-early, links-enough}
+use Rattle.pointer_right.specs.Turns.{gap-nought, steps-by, jumps-by, links-by, links-early}
 
 -- ---- gaps
-pub gap-nought : (ws : List ℕ) (i r : ℕ) → r ≤ suc i → gap ws i r ≡ 0
-unfolding gap sum
-gap-nought ws i r h = let e : r - i - 1 ≡ 0 = omega arith in rw e
-
 pub gap-grows : (ws : List ℕ) → Growing (gap ws)
 gap-grows ws = record { far = far; near = near }
   where
@@ -85,61 +81,30 @@ module _ (l : PageLimits) (ws : List ℕ) (i : ℕ) where
   pub step-above : (r : ℕ) → i < r → l .lmax < gap ws i r → i < r - 1
   step-above r h over = ⊎-elim (λ g. absurd (omega (arith, gap-nought ws i r g))) (λ g. omega arith) (split r (suc i))
 
-  -- r stands where it is, or goes on one below
-  stay-or-step : (r : ℕ) → i < suc r → suc r ≤ length ws + 1 → At (suc r) → (i < r → At r → Stepped l ws i (steps (pagesOf l ws) i r .stands)) →
-      Stepped l ws i (steps (pagesOf l ws) i (suc r) .stands)
-  stay-or-step r above within at again = ⊎-elim stop more (split (gap ws i (suc r)) (l .lmax))
-    where
-      stop : gap ws i (suc r) ≤ l .lmax → Stepped l ws i (steps (pagesOf l ws) i (suc r) .stands)
-      stop h = rw (steps-stop l ws i (suc r) h) (record { above = above; within = within; allowed = h; placed = at })
-
-      one-less : suc r - 1 ≡ r
-      one-less = omega arith
-
-      more : l .lmax < gap ws i (suc r) → Stepped l ws i (steps (pagesOf l ws) i (suc r) .stands)
-      more h =
-          rw (steps-more l ws i (suc r) (omega arith) h, one-less)
-          (again (omega (arith, step-above (suc r) above h, one-less))
-          (placed-step (taken l ws) (gap ws) (gap-grows ws) (l .lmin) (l .lmax) (length ws + 1) i r h))
-
   pub steps-stepped : (r : ℕ) → i < r → r ≤ length ws + 1 → At r → Stepped l ws i (steps (pagesOf l ws) i r .stands)
-  steps-stepped zero above within at = absurd (omega arith)
-  steps-stepped (suc r) above within at = stay-or-step r above within at (λ g h. steps-stepped r g (omega arith) h)
+  steps-stepped =
+      steps-by l ws i (λ r t. i < r → r ≤ length ws + 1 → At r → Stepped l ws i (t .stands))
+      (λ r h above within at. record { above = above; within = within; allowed = h; placed = at })
+      (λ r t h rest above within at. rest (omega (arith, step-above (suc r) above h)) (omega arith)
+      (placed-step (taken l ws) (gap ws) (gap-grows ws) (l .lmin) (l .lmax) (length ws + 1) i r h))
 
   module _ (left : List ℕ) (falls : (k : ℕ) → 0 < entryAt left k → entryAt left k < k)
       (lefts : (k : ℕ) → i < k → k ≤ length ws + 1 → Left (taken l ws) (suc i) k (entryAt left k)) where
-    -- r stands where it is, or goes on from its left entry
-    stay-or-jump : (r : ℕ) → Stepped l ws i r →
-        (entryAt left r < r → Stepped l ws i (entryAt left r) → Pointed l ws i left (jumps (pagesOf l ws) i left (entryAt left r) (entryAt left r) .stands)) →
-        Pointed l ws i left (jumps (pagesOf l ws) i left r r .stands)
-    stay-or-jump r s again =
-        ⊎-elim
-        (λ none. stop (λ f. absurd (omega arith)))
-        (λ entry. ⊎-elim (more entry) (λ near. stop (λ f. near)) (split (l .lmin) (gap ws i (entryAt left r))))
-        (split (entryAt left r) 0)
-      where
-        own : Left (taken l ws) (suc i) r (entryAt left r)
-        own = lefts r (s .above) (s .within)
-
-        stop : (0 < entryAt left r → gap ws i (entryAt left r) < l .lmin) → Pointed l ws i left (jumps (pagesOf l ws) i left r r .stands)
-        stop f = rw (jumps-stop l ws i left r r f) (record { stepped = s; stops = f })
-
-        more : 0 < entryAt left r → l .lmin ≤ gap ws i (entryAt left r) → Pointed l ws i left (jumps (pagesOf l ws) i left r r .stands)
-        more entry far =
-            rw (jumps-more l ws i left falls r entry far)
-            (again (falls r entry) (record {
-              above = own .from entry;
-              within = omega (arith, s .within, own .below);
-              allowed = omega (arith, s .allowed, gap-grows ws .far i (entryAt left r) r (omega (arith, own .below)));
-              placed = placed-jump (taken l ws) (gap ws) (gap-grows ws) (l .lmin) (l .lmax) (length ws + 1) i r (entryAt left r) own entry far (s .placed);
-            }))
-
-    jumps-from : (d r : ℕ) → r ≤ d → Stepped l ws i r → Pointed l ws i left (jumps (pagesOf l ws) i left r r .stands)
-    jumps-from zero r h s = absurd (omega (arith, s .above))
-    jumps-from (suc d) r h s = stay-or-jump r s (λ g t. jumps-from d (entryAt left r) (omega arith) t)
+    jumped : (r : ℕ) → 0 < entryAt left r → l .lmin ≤ gap ws i (entryAt left r) → Stepped l ws i r → Stepped l ws i (entryAt left r)
+    jumped r entry far s =
+        let own = lefts r (s .above) (s .within) in
+        record {
+          above = own .from entry;
+          within = omega (arith, s .within, own .below);
+          allowed = omega (arith, s .allowed, gap-grows ws .far i (entryAt left r) r (omega (arith, own .below)));
+          placed = placed-jump (taken l ws) (gap ws) (gap-grows ws) (l .lmin) (l .lmax) (length ws + 1) i r (entryAt left r) own entry far (s .placed);
+        }
 
     pub jumps-pointed : (r : ℕ) → Stepped l ws i r → Pointed l ws i left (jumps (pagesOf l ws) i left r r .stands)
-    jumps-pointed r s = jumps-from r r (omega arith) s
+    jumps-pointed =
+        jumps-by l ws i left falls (λ r t. Stepped l ws i r → Pointed l ws i left (t .stands))
+        (λ r f s. record { stepped = s; stops = f })
+        (λ r t entry far rest s. rest (jumped r entry far s))
 
 -- ---- "from k = i+1, while best k > best i, Link k [..]; the k reached becomes the right of i"
 -- what the linking of start i leaves: the right of i, and the left entries
@@ -164,54 +129,35 @@ module _ (l : PageLimits) (ws : List ℕ) (i : ℕ) (right : List ℕ)
       (getD-set-same left k i 0 (omega (arith, at .within)))
       (λ j ne. getD-set-other left k j i 0 ne)
 
-  abbrev Links : ℕ → List ℕ → Taken Linked
-  Links k left = links (pagesOf l ws) i right (length ws + 1 - k) k left
+  joined-stop : (k : ℕ) (left : List ℕ) → leq (Index.best l ws k) (Index.best l ws i) ≡ true → Linking (taken l ws) (length ws + 1) i k (entryAt left) →
+      Joined l ws i left (record { reached = k; left = left })
+  joined-stop k left h at =
+      let beats = not-larger (Index.best l ws) k i (at .above) h in
+      record {
+        right = linked-right (taken l ws) (length ws + 1) i k (entryAt left) at beats;
+        lefts = linked-left (taken l ws) (length ws + 1) i k (entryAt left) at beats;
+        size = refl;
+        kept = λ j g. refl;
+      }
 
-  stay-or-link : (k : ℕ) (left : List ℕ) → length left ≡ length ws + 2 → Linking (taken l ws) (length ws + 1) i k (entryAt left) →
-      (k < entryAt right k → Linking (taken l ws) (length ws + 1) i (entryAt right k) (entryAt (set left k i)) →
-      Joined l ws i (set left k i) (Links (entryAt right k) (set left k i) .stands)) →
-      Joined l ws i left (Links k left .stands)
-  stay-or-link k left size at again = ⊎-elim stop more (tested (leq (Index.best l ws k) (Index.best l ws i)))
-    where
-      stop : leq (Index.best l ws k) (Index.best l ws i) ≡ true → Joined l ws i left (Links k left .stands)
-      stop h =
-          rw (links-stop l ws i right (length ws + 1 - k) k left h)
-          (record {
-            right = linked-right (taken l ws) (length ws + 1) i k (entryAt left) at (not-larger (Index.best l ws) k i (at .above) h);
-            lefts = linked-left (taken l ws) (length ws + 1) i k (entryAt left) at (not-larger (Index.best l ws) k i (at .above) h);
-            size = refl;
-            kept = λ j g. refl;
-          })
-
-      next : leq (Index.best l ws k) (Index.best l ws i) ≡ false → Joined l ws i (set left k i) (Links (entryAt right k) (set left k i) .stands)
-      next h =
-          let early = links-early l ws i right rises k (at .within) h in
-          again (rises k (at .above) early .0) (link-on k left size at h)
-
-      more : leq (Index.best l ws k) (Index.best l ws i) ≡ false → Joined l ws i left (Links k left .stands)
-      more h =
-          rw (links-more l ws i right rises k left (at .above) (at .within) h)
-          (record {
-            right = next h .right;
-            lefts = next h .lefts;
-            size = next h .size ∙ length-set left k i;
-            kept = λ j g. next h .kept j g ∙ getD-set-other left k j i 0 (omega (arith, at .above));
-          })
-
-  links-from : (d k : ℕ) (left : List ℕ) → length ws + 1 < k + d → length left ≡ length ws + 2 → Linking (taken l ws) (length ws + 1) i k (entryAt left) →
-      Joined l ws i left (Links k left .stands)
-  links-from zero k left h size at = absurd (omega (arith, at .within))
-  links-from (suc d) k left h size at =
-      stay-or-link k left size at (λ g next. links-from d (entryAt right k) (set left k i) (omega arith) (length-set left k i ∙ size) next)
+  joined-more : (k : ℕ) (left : List ℕ) (s : Linked) → i < k → Joined l ws i (set left k i) s → Joined l ws i left s
+  joined-more k left s above next = record {
+    right = next .right;
+    lefts = next .lefts;
+    size = next .size ∙ length-set left k i;
+    kept = λ j g. next .kept j g ∙ getD-set-other left k j i 0 (omega arith);
+  }
 
   -- The linking of start i, from k = i + 1 on.
   pub links-joined : (left : List ℕ) → length left ≡ length ws + 2 → i ≤ length ws →
       ((k : ℕ) → i < k → k ≤ length ws + 1 → Left (taken l ws) (suc i) k (entryAt left k)) →
       Joined l ws i left (links (pagesOf l ws) i right (length ws) (suc i) left .stands)
   links-joined left size low lefts =
-      rw (links-enough l ws i right rises (length ws) (length ws + 1 - suc i) (suc i) left
-      (omega arith) (omega arith) (omega arith) (omega arith))
-      (links-from (length ws + 1) (suc i) left (omega arith) size (linking-first (taken l ws) (length ws + 1) i (entryAt left) (omega arith) lefts))
+      links-by l ws i right rises
+      (λ k left t. length left ≡ length ws + 2 → Linking (taken l ws) (length ws + 1) i k (entryAt left) → Joined l ws i left (t .stands))
+      (λ k left above within e size at. joined-stop k left e at)
+      (λ k left t above early e rest size at. joined-more k left (t .stands) above (rest (length-set left k i ∙ size) (link-on k left size at e)))
+      left low size (linking-first (taken l ws) (length ws + 1) i (entryAt left) (omega arith) lefts)
 
 -- ---- all starts
 noughts : (n k : ℕ) → entryAt (replicate n 0) k ≡ 0

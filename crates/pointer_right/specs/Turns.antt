@@ -15,10 +15,16 @@ use Rattle.laws.specs.Cost.{Cost, none, some, leq}
 use Rattle.laws.specs.Table as Table
 use Rattle.paper.specs.declared.PageLimits.{PageLimits}
 use Rattle.paper.specs.declared.Kind.the-variants.{Step, Jump, Link}
+use Rattle.paper.specs.Paragraph.{sum}
 use Rattle.paper.specs.Index as Index
 use Rattle.paper.specs.Index.{gap, index}
 use Rattle.paper.specs.Moves.{move, Taken, still, moved}
 use Rattle.paper.specs.PointerRules.{pagesOf, entryAt, steps, jumps, Linked, links}
+
+-- a page that is empty: Gap(i, i+1) is 0
+pub gap-nought : (ws : List ℕ) (i r : ℕ) → r ≤ suc i → gap ws i r ≡ 0
+unfolding gap sum
+gap-nought ws i r h = let e : r - i - 1 ≡ 0 = omega arith in rw e
 
 -- a choice by a test that held, and by one that failed
 held : {A : Type 0} {b : Bool} (x y : A) → b ≡ true → elim b [ true ↦ x | false ↦ y ] ≡ x
@@ -55,6 +61,22 @@ module _ (l : PageLimits) (ws : List ℕ) (i : ℕ) where
   unfolding steps pagesOf
   steps-stop zero h = refl
   steps-stop (suc r) h = failed _ _ (le-ltb (l .lmax) (gap ws i (suc r)) h)
+
+  -- what holds where the steps stop, and is kept by a step, holds of all of them
+  pub steps-by : (P : ℕ → Taken ℕ → Type 0) → ((r : ℕ) → gap ws i r ≤ l .lmax → P r (still r)) →
+      ((r : ℕ) (t : Taken ℕ) → l .lmax < gap ws i (suc r) → P r t → P (suc r) (moved (move Step r) t)) → (r : ℕ) → P r (steps (pagesOf l ws) i r)
+  unfolding steps
+  steps-by P stop more zero = stop 0 (omega (arith, gap-nought ws i 0 (omega arith)))
+  steps-by P stop more (suc r) = go (steps-by P stop more r)
+    where
+      less : suc r - 1 ≡ r
+      less = omega arith
+
+      go : P r (steps (pagesOf l ws) i r) → P (suc r) (steps (pagesOf l ws) i (suc r))
+      go rest = ⊎-elim
+          (λ h. rw (steps-stop (suc r) h) (stop (suc r) h))
+          (λ h. rw (steps-more (suc r) (omega arith) h, less) (more r (steps (pagesOf l ws) i r) h rest))
+          (split (gap ws i (suc r)) (l .lmax))
 
   -- ---- "Jump r to its left entry while it has one and Gap(i, that entry) ≥ lmin"
   module _ (left : List ℕ) where
@@ -105,6 +127,33 @@ module _ (l : PageLimits) (ws : List ℕ) (i : ℕ) where
           jumps-enough r (suc r) r (omega arith) (omega arith) ∙ jump r r entry far
           ∙ ap (moved (move Jump (entryAt left r))) (jumps-enough r (entryAt left r) (entryAt left r) (omega (arith, falls r entry)) (omega arith))
 
+      -- what holds where the jumps stop, and is kept by a jump, holds of all of them
+      module _ (P : ℕ → Taken ℕ → Type 0)
+          (stop : (r : ℕ) → (0 < entryAt left r → gap ws i (entryAt left r) < l .lmin) → P r (still r))
+          (more : (r : ℕ) (t : Taken ℕ) → 0 < entryAt left r → l .lmin ≤ gap ws i (entryAt left r) → P (entryAt left r) t →
+          P r (moved (move Jump (entryAt left r)) t)) where
+        jumps-turn : (r : ℕ) → (entryAt left r < r → P (entryAt left r) (jumps (pagesOf l ws) i left (entryAt left r) (entryAt left r))) →
+            P r (jumps (pagesOf l ws) i left r r)
+        jumps-turn r again =
+            ⊎-elim
+            (λ none. stay (λ f. absurd (omega arith)))
+            (λ entry. ⊎-elim (on entry) (λ near. stay (λ f. near)) (split (l .lmin) (gap ws i (entryAt left r))))
+            (split (entryAt left r) 0)
+          where
+            stay : (0 < entryAt left r → gap ws i (entryAt left r) < l .lmin) → P r (jumps (pagesOf l ws) i left r r)
+            stay f = rw (jumps-stop r r f) (stop r f)
+
+            on : 0 < entryAt left r → l .lmin ≤ gap ws i (entryAt left r) → P r (jumps (pagesOf l ws) i left r r)
+            on entry far =
+                rw (jumps-more r entry far) (more r (jumps (pagesOf l ws) i left (entryAt left r) (entryAt left r)) entry far (again (falls r entry)))
+
+        jumps-from : (d r : ℕ) → r < d → P r (jumps (pagesOf l ws) i left r r)
+        jumps-from zero r h = absurd (omega arith)
+        jumps-from (suc d) r h = jumps-turn r (λ g. jumps-from d (entryAt left r) (omega arith))
+
+        pub jumps-by : (r : ℕ) → P r (jumps (pagesOf l ws) i left r r)
+        jumps-by r = jumps-from (suc r) r (omega arith)
+
   -- ---- "while best k > best i, Link k (its left becomes i) and go on at the right of k"
   module _ (right : List ℕ) where
     pub links-stop : (d k : ℕ) (left : List ℕ) → leq (Index.best l ws k) (Index.best l ws i) ≡ true → links (pagesOf l ws) i right d k left ≡ still (record { reached = k; left = left })
@@ -149,3 +198,27 @@ module _ (l : PageLimits) (ws : List ℕ) (i : ℕ) where
           links-enough (length ws + 1 - k) (suc (length ws + 1)) k left low high (omega arith) (omega arith)
           ∙ link (length ws + 1) k left more
           ∙ ap (moved (move Link k)) (links-enough (length ws + 1) (length ws + 1 - entryAt right k) (entryAt right k) (set left k i) (omega arith) (r .1) (omega arith) (omega arith))
+
+      -- what holds where the linking stops, and is kept by a link, holds of all of it
+      module _ (P : ℕ → List ℕ → Taken Linked → Type 0)
+          (stop : (k : ℕ) (left : List ℕ) → i < k → k ≤ length ws + 1 → leq (Index.best l ws k) (Index.best l ws i) ≡ true →
+          P k left (still (record { reached = k; left = left })))
+          (more : (k : ℕ) (left : List ℕ) (t : Taken Linked) → i < k → k ≤ length ws → leq (Index.best l ws k) (Index.best l ws i) ≡ false →
+          P (entryAt right k) (set left k i) t → P k left (moved (move Link k) t)) where
+        links-from : (d k : ℕ) (left : List ℕ) → length ws + 1 < k + d → i < k → k ≤ length ws + 1 → P k left (links (pagesOf l ws) i right (length ws + 1 - k) k left)
+        links-from zero k left h low high = absurd (omega arith)
+        links-from (suc d) k left h low high =
+            ⊎-elim
+            (λ e. rw (links-stop (length ws + 1 - k) k left e) (stop k left low high e))
+            (λ e. let early = links-early k high e in
+            let r = rises k low early in
+            rw (links-more k left low high e)
+            (more k left (links (pagesOf l ws) i right (length ws + 1 - entryAt right k) (entryAt right k) (set left k i)) low early e
+            (links-from d (entryAt right k) (set left k i) (omega arith) (omega arith) (r .1))))
+            (tested (leq (Index.best l ws k) (Index.best l ws i)))
+
+        -- from k = i + 1 on
+        pub links-by : (left : List ℕ) → i ≤ length ws → P (suc i) left (links (pagesOf l ws) i right (length ws) (suc i) left)
+        links-by left low =
+            rw (links-enough (length ws) (length ws + 1 - suc i) (suc i) left (omega arith) (omega arith) (omega arith) (omega arith))
+            (links-from (length ws + 1) (suc i) left (omega arith) (omega arith) (omega arith))
