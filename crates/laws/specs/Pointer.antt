@@ -214,13 +214,16 @@ module _ (o : Order) (gap : ℕ → ℕ → ℕ) (grows : Growing gap) (lmin lma
   placed-step i r over j p q g = absurd (omega (arith, grows .far i (suc r) j p))
 
   pub placed-jump : (i r m : ℕ) → Left o (suc i) r m → 0 < m → lmin ≤ gap i m → At i r → At i m
-  placed-jump i r m left entry fits at j p q g = (fits, ⊎-elim
-      (λ h. o .trans m r j (left .beats entry) (at j h q g .1))
-      (λ h. ⊎-elim
-          (λ n. subst (o .Beats m) (omega arith) (left .beats entry))
-          (λ n. o .trans m r j (left .beats entry) (left .rest j (omega (arith, left .from entry)) p n))
-          (split r j))
-      (split (suc r) j))
+  placed-jump i r m left entry fits at j p q g = (
+    fits,
+    ⊎-elim
+        (λ h. o .trans m r j (left .beats entry) (at j h q g .1))
+        (λ h. ⊎-elim
+        (λ n. subst (o .Beats m) (omega arith) (left .beats entry))
+        (λ n. o .trans m r j (left .beats entry) (left .rest j (omega (arith, left .from entry)) p n))
+        (split r j))
+        (split (suc r) j),
+  )
 
   pub placed-next : (h i r : ℕ) → h ≤ i → At i r → At h r
   placed-next h i r le at j p q g =
@@ -292,9 +295,9 @@ module _ (p : Problem) (i : ℕ) (early : i < p .end) where
     ahead = λ k ch e. ⊎-elim
         (λ h. h)
         (λ h. ⊎-elim
-            (λ same. subst (λ (z : ℕ). Ahead tie z k) same (ahead-refl tie k))
-            (λ other. absurd (beats k ch other .strict h (subst (λ (c : Cost). via k ≼ c) (e ∙ sym gives) (≼-refl (via k)))))
-            (same? k r))
+        (λ same. subst (λ (z : ℕ). Ahead tie z k) same (ahead-refl tie k))
+        (λ other. absurd (beats k ch other .strict h (subst (λ (c : Cost). via k ≼ c) (e ∙ sym gives) (≼-refl (via k)))))
+        (same? k r))
         (ahead-total tie r k);
   }
     where

@@ -6,22 +6,19 @@ use mathlib.Core.Logic.{⊎-elim}
 use mathlib.Core.Bool.{Bool, true, false, _&&_}
 use mathlib.Core.List.{List}
 use native.Mathlib.Omega.{arith}
-use lib.Dec.{T, leb, leb→le, le→leb}
+use lib.Dec.{leb, leb→le, le→leb}
 use lib.ListN.{length}
 use borrow.Author.Tests.{le-leb, lt-leb}
 use Rattle.laws.specs.Number.{split, both}
 use Rattle.laws.specs.Cost.{Cost, none, some, _≼_, Has, has?, has-some, before, before-mono}
 use Rattle.laws.specs.Search.{largest}
 use Rattle.laws.specs.Setting.{Choice, through}
-use Rattle.laws.specs.Table as Table
 use Rattle.laws.specs.Chosen.{Next, next-unique}
 use Rattle.laws.specs.Pointer.{Cheaper, Left, Chosen, placed-chosen, cheaper-next, no-next, same?}
 use Rattle.paper.specs.declared.PageLimits.{PageLimits}
-use Rattle.paper.specs.Paragraph.{end}
 use Rattle.paper.specs.Index as Index
 use Rattle.paper.specs.Index.{gap, page, item, index}
 use Rattle.paper.specs.Right.{index-sums, chosen-index}
-use Rattle.paper.specs.Moves.{Taken}
 use Rattle.paper.specs.PointerRules.{pagesOf, entryAt, Pointing, pointed, linked, atStart, afterStarts, pointerAt, chooser}
 use Rattle.pointer_right.specs.Ready.{taken, gap-grows, Ready, Pointed, ready-pointed, ready-at}
 

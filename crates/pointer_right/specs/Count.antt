@@ -1,20 +1,13 @@
 -- The moves of an index are at most 2n: a Step or a Jump lowers the pointer, and a Link gives a left entry to an index that had none.
 -- Assumes nothing but what each law states.
 use Prim.Native.Nat.{ℕ, zero, suc, _+_, _-_, _*_, _≤_, _<_}
-use mathlib.Core.Path.{_≡_, refl, ap, sym, subst, _∙_}
-use mathlib.Core.Logic.{⊎-elim}
-use mathlib.Core.Bool.{true, false}
-use mathlib.Core.List.{List, [], _∷_, _++_}
+use mathlib.Core.Path.{_≡_, refl, ap, _∙_}
+use mathlib.Core.List.{List, [], _∷_}
 use native.Mathlib.Omega.{arith}
 use lib.ListN.{length, set, replicate, length-append, length-set}
-use Rattle.laws.specs.Number.{split, tested}
-use Rattle.laws.specs.Cost.{leq}
 use Rattle.laws.specs.Pointer.{Left, Right, Linking, linking-first, unlinked as no-entry}
 use Rattle.paper.specs.declared.PageLimits.{PageLimits}
-use Rattle.paper.specs.Index as Index
-use Rattle.paper.specs.Index.{gap}
-use Rattle.paper.specs.Moves.{Taken}
-use Rattle.paper.specs.PointerRules.{pagesOf, entryAt, steps, jumps, Linked, links, Pointing, pointed, linked, atStart, afterStarts, pointerAt, pointerMoves}
+use Rattle.paper.specs.PointerRules.{pagesOf, entryAt, steps, jumps, links, Pointing, pointed, linked, atStart, afterStarts, pointerMoves}
 use Rattle.pointer_right.specs.Turns.{steps-by, jumps-by, links-by}
 use Rattle.pointer_right.specs.Ready.{taken, Ready, link-on, ready-falls, ready}
 
@@ -61,16 +54,21 @@ module _ (l : PageLimits) (ws : List ℕ) (i : ℕ) where
 
   -- a Link takes one from the indices that have no left entry
   pub links-count : (right : List ℕ) → ((k : ℕ) → i < k → k ≤ length ws → Right (taken l ws) (length ws + 1) k (entryAt right k)) →
-      (left : List ℕ) → length left ≡ length ws + 2 → 1 ≤ i → i ≤ length ws → ((k : ℕ) → i < k → k ≤ length ws + 1 → Left (taken l ws) (suc i) k (entryAt left k)) →
+      (left : List ℕ) → length left ≡ length ws + 2 → 1 ≤ i → i ≤ length ws →
+      ((k : ℕ) → i < k → k ≤ length ws + 1 → Left (taken l ws) (suc i) k (entryAt left k)) →
       length (links (pagesOf l ws) i right (length ws) (suc i) left .moves) + unlinked (links (pagesOf l ws) i right (length ws) (suc i) left .stands .left)
       ≡ unlinked left
   links-count right rights left size pos low lefts =
       links-by l ws i right (λ k h g. let r = rights k h g in (r .above, r .within))
-      (λ k left t. length left ≡ length ws + 2 → Linking (taken l ws) (length ws + 1) i k (entryAt left) → length (t .moves) + unlinked (t .stands .left) ≡ unlinked left)
+      (λ k left t. length left ≡ length ws + 2 → Linking (taken l ws) (length ws + 1) i k (entryAt left) →
+      length (t .moves) + unlinked (t .stands .left) ≡ unlinked left)
       (λ k left above within e size at. omega arith)
       (λ k left t above early e rest size at.
-      omega (arith, rest (length-set left k i ∙ size) (link-on l ws i right rights k left size at e),
-      unlinked-set left k i (no-entry (taken l ws) (length ws + 1) i k (entryAt left) at) (omega arith) pos))
+      omega (
+        arith,
+        rest (length-set left k i ∙ size) (link-on l ws i right rights k left size at e),
+        unlinked-set left k i (no-entry (taken l ws) (length ws + 1) i k (entryAt left) at) (omega arith) pos,
+      ))
       left low size (linking-first (taken l ws) (length ws + 1) i (entryAt left) (omega arith) lefts)
 
 -- ---- each start

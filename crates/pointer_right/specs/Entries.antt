@@ -1,6 +1,6 @@
 -- After all starts the left and right entries are those that 01 declares. Assumes nothing but what each law states.
 use Prim.Native.Nat.{ℕ, zero, suc, _+_, _-_, _≤_, _<_}
-use mathlib.Core.Path.{_≡_, refl, ap, sym, subst, _∙_}
+use mathlib.Core.Path.{_≡_, refl, ap, sym, _∙_}
 use mathlib.Core.Logic.{⊎-elim}
 use mathlib.Core.Bool.{not}
 use mathlib.Core.List.{List, [], _∷_, _++_}
@@ -75,7 +75,8 @@ module _ (l : PageLimits) (ws : List ℕ) (s : Pointing) (ready : Ready l ws 0 s
           (λ g. ap (entryAt (s .right)) (omega (arith, ready .right-length)) ∙ ready .right-end
           ∙ sym (getD-at es 0 [] 0 j (omega (arith, ready .right-length, size))))
           (λ g. right-entry (suc j) (omega arith) (omega arith)
-          ∙ sym (List·getD-append es (0 ∷ []) 0 j (omega (arith, size)) ∙ getD-entries (rightEntry (Index.best l ws) (length ws)) 1 (length ws) j 0 g ∙ ap (rightEntry (Index.best l ws) (length ws)) (omega arith)))
+          ∙ sym (List·getD-append es (0 ∷ []) 0 j (omega (arith, size))
+          ∙ getD-entries (rightEntry (Index.best l ws) (length ws)) 1 (length ws) j 0 g ∙ ap (rightEntry (Index.best l ws) (length ws)) (omega arith)))
           (split (length ws) j)
 
 -- ---- after all starts

@@ -5,3 +5,4 @@ pub mod Ready
 pub mod Choice
 pub mod Entries
 pub mod Count
+pub mod Numbers

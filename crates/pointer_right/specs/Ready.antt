@@ -1,27 +1,23 @@
 -- What stands before each start of the pointer rules: where the pointer is, and what each left and right entry is. Assumes nothing
 -- but what each law states.
 use Prim.Native.Nat.{ℕ, zero, suc, _+_, _-_, _≤_, _<_}
-use mathlib.Core.Path.{_≡_, refl, ap, sym, subst, _∙_}
-use mathlib.Core.Logic.{⊎-elim, _≢_}
+use mathlib.Core.Path.{_≡_, refl, subst, _∙_}
+use mathlib.Core.Logic.{⊎-elim}
 use mathlib.Core.Bool.{true, false}
 use mathlib.Core.List.{List}
 use native.Mathlib.Omega.{arith}
-use lib.Dec.{leb·zero}
-use lib.ListN.{length, getD, set, replicate, length-set, length-replicate, getD-replicate, List·getD-eq-default}
+use lib.ListN.{length, set, replicate, length-set, length-replicate, getD-replicate, List·getD-eq-default}
 use lib.Seq.{getD-set-same, getD-set-other}
-use Rattle.laws.specs.Number.{split, tested}
-use Rattle.laws.specs.Cost.{Cost, none, some, leq}
+use Rattle.laws.specs.Number.{split}
+use Rattle.laws.specs.Cost.{leq}
 use Rattle.laws.specs.Search.{largest}
-use Rattle.laws.specs.Table as Table
-use Rattle.laws.specs.Pointer.{Order, cheaper, not-larger, larger, Left, left-first, Right, Linking, linking-first, linking-more, linked-left, linked-right, Growing, Placed, placed-first, placed-step, placed-jump, placed-next}
+use Rattle.laws.specs.Pointer.{Order, cheaper, not-larger, larger, Left, left-first, Right, Linking, linking-first, linking-more, linked-left, linked-right}
+use Rattle.laws.specs.Pointer.{Growing, Placed, placed-first, placed-step, placed-jump, placed-next}
 use Rattle.paper.specs.declared.PageLimits.{PageLimits}
-use Rattle.paper.specs.Paragraph.{sum, end}
 use Rattle.paper.specs.Index as Index
-use Rattle.paper.specs.Index.{gap, index}
-use Rattle.paper.specs.Allowed.{pageLimitsHold, Passed}
+use Rattle.paper.specs.Index.{gap}
 use Rattle.paper.specs.Scale.{upTo-le, gap-scale}
-use Rattle.paper.specs.Moves.{Taken, still, joined}
-use Rattle.paper.specs.PointerRules.{Pages, pagesOf, entryAt, steps, jumps, Linked, links, Pointing, pointed, linked, atStart, afterStarts}
+use Rattle.paper.specs.PointerRules.{pagesOf, entryAt, steps, jumps, Linked, links, Pointing, pointed, linked, atStart, afterStarts}
 use Rattle.pointer_right.specs.Turns.{gap-nought, steps-by, jumps-by, links-by, links-early}
 
 -- ---- gaps
@@ -177,7 +173,8 @@ module _ (l : PageLimits) (ws : List ℕ) where
       (split k i)
 
   -- a right entry is larger than its index, up to the end
-  pub ready-rises : (i : ℕ) (s : Pointing) → Ready l ws i s → (k : ℕ) → i < k → k ≤ length ws → (k < entryAt (s .right) k) × (entryAt (s .right) k ≤ length ws + 1)
+  pub ready-rises : (i : ℕ) (s : Pointing) → Ready l ws i s → (k : ℕ) → i < k → k ≤ length ws →
+      (k < entryAt (s .right) k) × (entryAt (s .right) k ≤ length ws + 1)
   ready-rises i s ready k h g = let r = ready .right k h g in (r .above, r .within)
 
   pub ready-pointed : (i : ℕ) (s : Pointing) → Ready l ws i s → Pointed l ws i (s .left) (pointed (pagesOf l ws) i (s .left) (s .pointer) .stands)

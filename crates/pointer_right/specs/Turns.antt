@@ -156,7 +156,8 @@ module _ (l : PageLimits) (ws : List ℕ) (i : ℕ) where
 
   -- ---- "while best k > best i, Link k (its left becomes i) and go on at the right of k"
   module _ (right : List ℕ) where
-    pub links-stop : (d k : ℕ) (left : List ℕ) → leq (Index.best l ws k) (Index.best l ws i) ≡ true → links (pagesOf l ws) i right d k left ≡ still (record { reached = k; left = left })
+    pub links-stop : (d k : ℕ) (left : List ℕ) → leq (Index.best l ws k) (Index.best l ws i) ≡ true →
+        links (pagesOf l ws) i right d k left ≡ still (record { reached = k; left = left })
     unfolding links pagesOf
     links-stop zero k left h = refl
     links-stop (suc d) k left h = held _ _ h
@@ -167,20 +168,24 @@ module _ (l : PageLimits) (ws : List ℕ) (i : ℕ) where
     unfolding links pagesOf
     link d k left h = failed _ _ h
 
+    at-end : (k : ℕ) → k ≡ length ws + 1 → leq (Index.best l ws k) (Index.best l ws i) ≡ true
+    at-end k e = rw e (links-end l ws i)
+
     -- right entries are larger than their index, up to the end, where the linking ends
     module _ (rises : (k : ℕ) → i < k → k ≤ length ws → (k < entryAt right k) × (entryAt right k ≤ length ws + 1)) where
       -- an index that is linked stands before the end
       pub links-early : (k : ℕ) → k ≤ length ws + 1 → leq (Index.best l ws k) (Index.best l ws i) ≡ false → k ≤ length ws
       links-early k high h =
-          ⊎-elim (λ g. absurd (true-not-false (sym (links-end l ws i) ∙ ap (λ (z : ℕ). leq (Index.best l ws z) (Index.best l ws i)) (omega arith) ∙ h))) (λ g. omega arith) (split (length ws + 1) k)
+          ⊎-elim (λ g. absurd (true-not-false (sym (at-end k (omega arith)) ∙ h))) (λ g. omega arith) (split (length ws + 1) k)
 
-      -- length ws + 1 - k turns are enough
-      pub links-enough : (c d k : ℕ) (left : List ℕ) → i < k → k ≤ length ws + 1 → length ws + 1 - k ≤ c → length ws + 1 - k ≤ d → links (pagesOf l ws) i right c k left ≡ links (pagesOf l ws) i right d k left
+      -- n + 1 - k turns are enough
+      pub links-enough : (c d k : ℕ) (left : List ℕ) → i < k → k ≤ length ws + 1 → length ws + 1 - k ≤ c → length ws + 1 - k ≤ d →
+          links (pagesOf l ws) i right c k left ≡ links (pagesOf l ws) i right d k left
       links-enough zero d k left low high f g =
-          let stop : leq (Index.best l ws k) (Index.best l ws i) ≡ true = ap (λ (z : ℕ). leq (Index.best l ws z) (Index.best l ws i)) (omega arith) ∙ links-end l ws i in
+          let stop = at-end k (omega arith) in
           links-stop zero k left stop ∙ sym (links-stop d k left stop)
       links-enough (suc c) zero k left low high f g =
-          let stop : leq (Index.best l ws k) (Index.best l ws i) ≡ true = ap (λ (z : ℕ). leq (Index.best l ws z) (Index.best l ws i)) (omega arith) ∙ links-end l ws i in
+          let stop = at-end k (omega arith) in
           links-stop (suc c) k left stop ∙ sym (links-stop zero k left stop)
       links-enough (suc c) (suc d) k left low high f g =
           ⊎-elim
@@ -192,12 +197,14 @@ module _ (l : PageLimits) (ws : List ℕ) (i : ℕ) where
           (tested (leq (Index.best l ws k) (Index.best l ws i)))
 
       pub links-more : (k : ℕ) (left : List ℕ) → i < k → k ≤ length ws + 1 → leq (Index.best l ws k) (Index.best l ws i) ≡ false →
-          links (pagesOf l ws) i right (length ws + 1 - k) k left ≡ moved (move Link k) (links (pagesOf l ws) i right (length ws + 1 - entryAt right k) (entryAt right k) (set left k i))
+          links (pagesOf l ws) i right (length ws + 1 - k) k left
+          ≡ moved (move Link k) (links (pagesOf l ws) i right (length ws + 1 - entryAt right k) (entryAt right k) (set left k i))
       links-more k left low high more =
           let r = rises k low (links-early k high more) in
           links-enough (length ws + 1 - k) (suc (length ws + 1)) k left low high (omega arith) (omega arith)
           ∙ link (length ws + 1) k left more
-          ∙ ap (moved (move Link k)) (links-enough (length ws + 1) (length ws + 1 - entryAt right k) (entryAt right k) (set left k i) (omega arith) (r .1) (omega arith) (omega arith))
+          ∙ ap (moved (move Link k))
+          (links-enough (length ws + 1) (length ws + 1 - entryAt right k) (entryAt right k) (set left k i) (omega arith) (r .1) (omega arith) (omega arith))
 
       -- what holds where the linking stops, and is kept by a link, holds of all of it
       module _ (P : ℕ → List ℕ → Taken Linked → Type 0)
@@ -205,7 +212,8 @@ module _ (l : PageLimits) (ws : List ℕ) (i : ℕ) where
           P k left (still (record { reached = k; left = left })))
           (more : (k : ℕ) (left : List ℕ) (t : Taken Linked) → i < k → k ≤ length ws → leq (Index.best l ws k) (Index.best l ws i) ≡ false →
           P (entryAt right k) (set left k i) t → P k left (moved (move Link k) t)) where
-        links-from : (d k : ℕ) (left : List ℕ) → length ws + 1 < k + d → i < k → k ≤ length ws + 1 → P k left (links (pagesOf l ws) i right (length ws + 1 - k) k left)
+        links-from : (d k : ℕ) (left : List ℕ) → length ws + 1 < k + d → i < k → k ≤ length ws + 1 →
+            P k left (links (pagesOf l ws) i right (length ws + 1 - k) k left)
         links-from zero k left h low high = absurd (omega arith)
         links-from (suc d) k left h low high =
             ⊎-elim
