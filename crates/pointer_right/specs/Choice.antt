@@ -20,6 +20,7 @@ use Rattle.paper.specs.Index as Index
 use Rattle.paper.specs.Index.{gap, page, item, index}
 use Rattle.paper.specs.Right.{index-sums, chosen-index}
 use Rattle.paper.specs.PointerRules.{pagesOf, entryAt, Pointing, pointed, linked, atStart, afterStarts, pointerAt, chooser}
+use Rattle.pointer_right.specs.Turns.{true-not-false}
 use Rattle.pointer_right.specs.Ready.{taken, gap-grows, Ready, Pointed, ready-pointed, ready-at}
 
 -- a sum is no larger only where the rest is no larger
@@ -43,9 +44,6 @@ has-true (some n) h = refl
 and-false : (b : Bool) → b && false ≡ false
 and-false true = refl
 and-false false = refl
-
-true-not-false : true ≡ false → ⊥
-true-not-false e = let z : _≡_ {A = ℕ} 0 1 = cc in omega arith
 
 module _ (l : PageLimits) (ws : List ℕ) (i r : ℕ) (left : List ℕ) (low : i ≤ length ws) (at : Pointed l ws i left r)
     (own : Left (taken l ws) (suc i) r (entryAt left r)) where

@@ -33,7 +33,7 @@ held x y e = rw e
 failed : {A : Type 0} {b : Bool} (x y : A) → b ≡ false → elim b [ true ↦ x | false ↦ y ] ≡ y
 failed x y e = rw e
 
-true-not-false : true ≡ false → ⊥
+pub true-not-false : true ≡ false → ⊥
 true-not-false e = let z : _≡_ {A = ℕ} 0 1 = cc in omega arith
 
 -- "The best of n+1 is 0": the linking ends there.
