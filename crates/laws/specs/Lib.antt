@@ -10,3 +10,4 @@ pub mod Bridge
 pub mod Strip
 pub mod Members
 pub mod Queue
+pub mod Pointer
