@@ -1,20 +1,19 @@
 -- Both pops and the new candidate, one after the other. Assumes nothing.
 use Prim.Native.Nat.{ℕ, _+_, _-_, _≤_, _<_}
-use mathlib.Core.Path.{_≡_, refl, ap, sym, subst, _∙_}
-use mathlib.Core.List.{List, [], _∷_, _++_, reverse, reverse-cons, reverse-reverse}
+use mathlib.Core.Path.{_≡_, sym, subst, _∙_}
+use mathlib.Core.List.{List, _∷_, reverse}
 use native.Mathlib.Omega.{arith}
 use borrow.Rule.Slice.PartMut.{putMid}
 use lib.ListN.{length, getD, take, drop, set, length-set}
-use lib.Seq.{slice, take-set-le, getD-set-same}
-use Rattle.laws.specs.Members.{slice-every, slice-pairs}
+use lib.Seq.{slice}
+use Rattle.laws.specs.Members.{slice-every, slice-pairs, slice-push}
 use Rattle.paper.specs.declared.Limits.{Limits}
 use Rattle.paper.specs.declared.Kind.the-variants.{Add}
 use Rattle.paper.specs.Moves.{Taken, code, move, joined}
 use Rattle.paper.specs.QueueRules.{Text, popWorse, popBridged, added, add}
 use Rattle.lines.specs.Held.{textIn}
-use Rattle.strips.specs.Running.{Running, running-rule, running-part, running-more, running-same, running-done, running-length, joined-assoc, written}
-use Rattle.queue.specs.Asks.{Queued, Member, PopWorseAsks, PopBridgedAsks, AddAsks, Popped, Added}
-use Rattle.queue.proofs.Ends.{part-more}
+use Rattle.strips.specs.Running.{Running, running-rule, running-part, running-more, running-done, joined-assoc}
+use Rattle.queue.specs.Asks.{Member, PopWorseAsks, PopBridgedAsks, AddAsks, Popped, Added}
 use Rattle.queue.proofs.Members.{member-three}
 
 module _ (l : Limits) (i j : ℕ) (S B Q : List ℕ) (f e room : ℕ) (a : AddAsks l i j S B Q f e room) where
@@ -46,14 +45,6 @@ module _ (l : Limits) (i j : ℕ) (S B Q : List ℕ) (f e room : ℕ) (a : AddAs
       at-most : {m n : ℕ} → m < n → m ≤ n
       at-most h = omega arith
 
--- the new candidate stands behind the rear
-pub added-rear : (Q : List ℕ) (f r j : ℕ) → f ≤ r → r < length Q → reverse (j ∷ reverse (slice f r Q)) ≡ slice f (r + 1) (set Q r j)
-added-rear Q f r j h g =
-    reverse-cons j (reverse (slice f r Q))
-    ∙ ap (λ (q : List ℕ). q ++ (j ∷ [])) (reverse-reverse (slice f r Q))
-    ∙ sym (part-more (set Q r j) f r h (omega (arith, length-set Q r j))
-    ∙ rw (take-set-le r Q r j (omega arith), getD-set-same Q r j 0 g))
-
 -- what the three leave: the rear popped to place s, then to place r, then j added there
 module _ (l : Limits) (i j : ℕ) (S B Q : List ℕ) (f e : ℕ) (m₀ m₁ m₂ m₃ : List ℕ) (s r w : ℕ) where
   abbrev t : Text
@@ -83,7 +74,7 @@ module _ (l : Limits) (i j : ℕ) (S B Q : List ℕ) (f e : ℕ) (m₀ m₁ m₂
       (record {
         moves = d .moves;
         count = d .count;
-        stands = d .stands ∙ added-rear Q f r j (q .within) (omega (arith, a .queued .place, a .new .break .above, a .new .break .first, p .count, q .count));
+        stands = d .stands ∙ sym (slice-push f r Q j (q .within) (omega (arith, a .queued .place, a .new .break .above, a .new .break .first, p .count, q .count)));
         low = omega (arith, q .within);
         high = omega (arith, p .count, q .count);
         same = length-set Q r j;

@@ -1,12 +1,13 @@
 -- One turn of a loop that drops the front or pops the rear of the queue. The queue stands in the strip Q from place f up to place e.
 -- Assumes nothing.
 use Prim.Native.Nat.{ℕ, _+_, _-_, _≤_, _<_}
-use mathlib.Core.Path.{_≡_, ap, sym, _∙_}
-use mathlib.Core.List.{List, [], _∷_, _++_, reverse, reverse-append}
+use mathlib.Core.Path.{_≡_}
+use mathlib.Core.List.{List, [], _∷_, reverse}
 use native.Mathlib.Numerals.{add-one}
 use native.Mathlib.Omega.{arith}
 use lib.ListN.{length, getD, take, set, drop-of-length-le}
-use lib.Seq.{slice, slice-cons, take-suc, drop-append-le, length-take-le}
+use lib.Seq.{slice, slice-cons, length-take-le}
+use Rattle.laws.specs.Members.{slice-rear}
 use Rattle.paper.specs.declared.Kind.the-variants.{Drop, Pop}
 use Rattle.paper.specs.Moves.{Taken, code, move, moved, still}
 use Rattle.strips.specs.Running.{Running, running-first, running-same, running-more, running-done}
@@ -20,17 +21,8 @@ module _ (Q : List ℕ) (f : ℕ) where
   pub part-none : (e : ℕ) → e ≤ f → e ≤ length Q → slice f e Q ≡ []
   part-none e h g = drop-of-length-le (take e Q) {i = f} (omega (arith, length-take-le e Q g))
 
-  -- one entry more at the rear
-  pub part-more : (e : ℕ) → f ≤ e → e < length Q → slice f (e + 1) Q ≡ slice f e Q ++ (getD Q e 0 ∷ [])
-  part-more e h g =
-      rw (add-one e, take-suc Q e 0 g) (drop-append-le f (take e Q) (getD Q e 0 ∷ []) (omega (arith, length-take-le e Q (omega arith))))
-
   pub part-rear : (e : ℕ) → f < e → e ≤ length Q → reverse (slice f e Q) ≡ getD Q (e - 1) 0 ∷ reverse (slice f (e - 1) Q)
-  part-rear e h g =
-      let z : e - 1 + 1 ≡ e = omega arith in
-      ap (λ (k : ℕ). reverse (slice f k Q)) (sym z)
-      ∙ ap reverse (part-more (e - 1) (omega arith) (omega arith))
-      ∙ reverse-append (slice f (e - 1) Q) (getD Q (e - 1) 0 ∷ [])
+  part-rear e h g = slice-rear f (e - 1) e Q (omega arith) (omega arith) g
 
 -- ---- the front
 -- the front has come to place r

@@ -3,3 +3,4 @@ pub mod Turns
 pub mod Members
 pub mod Adding
 pub mod Passing
+pub mod Considering

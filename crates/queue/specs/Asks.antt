@@ -11,10 +11,11 @@ use Rattle.paper.specs.declared.Limits.{Limits}
 use Rattle.paper.specs.Allowed.{Ranges}
 use Rattle.paper.specs.declared.Kind.the-variants.{Pass}
 use Rattle.paper.specs.Moves.{Taken, move}
-use Rattle.paper.specs.QueueRules.{Standing}
-use Rattle.lines.specs.Held.{span}
+use Rattle.paper.specs.QueueRules.{Standing, candidates}
+use Rattle.lines.specs.Held.{span, textIn}
 use Rattle.lines.specs.Asks.{Rising, Inside, Numbered, Three}
 use Rattle.strips.specs.Running.{written}
+use Rattle.queue.specs.declared.Queue.{Queue}
 
 -- ---- asked
 -- the strips hold a text: sums and bests of as many indices
@@ -148,8 +149,14 @@ pub record Added (rule : Taken (List ℕ)) (Q : List ℕ) (f e : ℕ) (m₀ : Li
   pub high : r ≤ e + 1
   pub same : length Q′ ≡ length Q
 
--- rule 2 came to the candidate c, or a start's rules to what stands from place f on
-pub record Settled (rule : Taken Standing) (m₀ : List ℕ) (f e c taken : ℕ) (Q m : List ℕ) : Type 0 where
+-- rule 2, or all rules of a start, leave the queue at these places of the strip Q′
+pub record Left (l : Limits) (i : ℕ) (S B : List ℕ) (rule : Taken Standing) (Q m₀ : List ℕ) (r : Queue) (Q′ m : List ℕ) : Type 0 where
   pub moves : m ≡ written (rule .moves) m₀
-  pub count : taken ≡ length (rule .moves)
-  pub stands : rule .stands ≡ record { queue = slice f e Q; candidate = c }
+  pub count : r .moves ≡ length (rule .moves)
+  pub stands : rule .stands ≡ record { queue = slice (r .front) (r .end) Q′; candidate = r .candidate }
+  pub same : length Q′ ≡ length Q
+  pub queued : Queued l S B i Q′ (r .front) (r .end) (r .candidate)
+
+pub record Considered (l : Limits) (i : ℕ) (S B Q : List ℕ) (f e c : ℕ) (m₀ : List ℕ) (r : Queue) (Q′ m : List ℕ) : Type 0 where
+  pub left : Left l i S B (candidates (textIn l S B) i c (slice f e Q)) Q m₀ r Q′ m
+  pub front : r .front ≡ f

@@ -1,5 +1,6 @@
 // The queue rules of document 01, a start at a time. The queue stands in its strip from `front` up to `end`. Workshop parts: they
 // ask what their callers meet.
+use lines::NONE;
 use lines::bridged;
 use lines::line;
 use lines::through;
@@ -12,9 +13,9 @@ ghost use lib.ListN.{length};
 ghost use lib.Seq.{slice};
 ghost use Prim.Native.Nat.{ℕ, _≤_};
 ghost use mathlib.Core.List.{List, reverse};
-ghost use Rattle.paper.specs.QueueRules.{dropLong, popWorse, popBridged, add as isAdd, dropWorse};
+ghost use Rattle.paper.specs.QueueRules.{dropLong, popWorse, popBridged, add as isAdd, consider as isConsider, dropWorse};
 ghost use Rattle.lines.specs.Held.{textIn};
-ghost use Rattle.queue.specs.Asks.{DropLongAsks, DropWorseAsks, PopWorseAsks, PopBridgedAsks, AddAsks, Dropped, Popped, Passes, Added};
+ghost use Rattle.queue.specs.Asks.{DropLongAsks, DropWorseAsks, PopWorseAsks, PopBridgedAsks, AddAsks, ConsiderAsks, CandidatesAsks, Dropped, Popped, Passes, Added, Considered};
 
 // The place behind the rear, and the moves taken.
 pub struct Rear {
@@ -213,5 +214,61 @@ fn add(
     Rear {
         end: rear + 1,
         moves: end - rear + 1,
+    }
+}
+
+// "if it is above lmax, or the candidate has no setting, Pass it. Otherwise" pop and add.
+fn consider(
+    l: Limits,
+    i: usize,
+    sums: &[u32],
+    best: &[u64],
+    queue: &mut [u32],
+    front: usize,
+    end: usize,
+    j: usize,
+    moves: &mut [u32],
+) -> Rear
+    requires { ⌜ ConsiderAsks l i j (now sums) (now best) (now queue) front end (length (now moves)) ⌝ }
+    ensures { λ r. ⌜ Added (isConsider (textIn l (now (sums .entry)) (now (best .entry))) i j (slice front end (now (queue .entry)))) (now (queue .entry)) front end (now (moves .entry)) (r .end) (r .moves) (now (queue .exit)) (now (moves .exit)) ⌝ }
+{
+    if l.lmax < line(sums, i, j) {
+        return pass(j, end, moves);
+    }
+    if best[j - 1] == NONE {
+        return pass(j, end, moves);
+    }
+    add(l, i, sums, best, queue, front, end, j, moves)
+}
+
+// "2. While Line(i, candidate) ≥ lmin: [..] The candidate then falls by one." Each candidate is lent the rest of the moves strip.
+fn candidates(
+    l: Limits,
+    i: usize,
+    sums: &[u32],
+    best: &[u64],
+    queue: &mut [u32],
+    front: usize,
+    end: usize,
+    candidate: usize,
+    moves: &mut [u32],
+) -> Queue
+    requires { ⌜ CandidatesAsks l i (now sums) (now best) (now queue) front end candidate (length (now moves)) ⌝ }
+    ensures { λ r. ⌜ Considered l i (now (sums .entry)) (now (best .entry)) (now (queue .entry)) front end candidate (now (moves .entry)) r (now (queue .exit)) (now (moves .exit)) ⌝ }
+{
+    let mut rear = end;
+    let mut j = candidate;
+    let mut taken = 0;
+    while l.lmin <= line(sums, i, j) {
+        let more = consider(l, i, sums, best, queue, front, rear, j, &mut moves[taken..]);
+        rear = more.end;
+        taken += more.moves;
+        j -= 1;
+    }
+    Queue {
+        front,
+        end: rear,
+        candidate: j,
+        moves: taken,
     }
 }

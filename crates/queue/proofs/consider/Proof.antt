@@ -1,67 +1,51 @@
+-- `queue::consider` meets its contract. Assumes nothing.
+use native.Mathlib.Omega.{arith}
+use Rattle.queue.proofs.Considering.{above, considering-add, considering-long, considering-none, considering-done}
 use borrow.Author.Needs.{needs}
 use Rattle.queue.proofs.consider.Statement.{statement}
 use Rattle.queue.proofs.consider.Tie as tie
-use Rattle.queue.proofs.consider.Reads as reads
-use Rattle.queue.proofs.consider.Lts as lts
-use Rattle.lines.proofs.line.Reads as line-reads
-use Rattle.queue.proofs.add.Reads as add-reads
-use Rattle.queue.proofs.pass.Reads as pass-reads
 
--- src/lib.rt:235:17
 line-requires : tie.Need-line-requires
-line-requires c κs = search needs
+line-requires c κs = record { first = c .before .before .before .before .pre .first; order = c .before .before .before .before .pre .queued .near; inside = c .before .before .before .before .pre .queued .within; rising = c .before .before .before .before .pre .words .rising }
 
--- src/lib.rt:236:9
 pass-requires : tie.Need-pass-requires
-pass-requires c κs = search needs
+pass-requires c κs = (omega (arith, c .before .before .before .before .before .before .before .before .pre .enough), omega (arith, c .before .before .before .before .before .before .before .before .pre .queued .within, c .before .before .before .before .before .before .before .before .pre .words .few))
 
--- src/lib.rt:236:9
 same-length : tie.Need-same-length
 same-length c = search needs
 
--- src/lib.rt:236:9
 returns : tie.Need-returns
-returns c = ?
+returns c = considering-long _ _ _ _ _ _ _ _ _ (c .before .before .before .before .before .before .before .before .before .before .before .pre) _ _ _ _ _ (c .before .before .before .before .before .before .line .ensures) (c .before .before .before .before .if1 .taken) (c .before .before .pass .ensures)
 
--- src/lib.rt:238:13
 sub-if2 : tie.Need-sub-if2
-sub-if2 c = search needs
+sub-if2 c = omega (arith, above _ _ _ _ _ _ _ _ _ (c .before .before .before .before .before .before .before .pre))
 
--- src/lib.rt:238:8
 mul-if2 : tie.Need-mul-if2
-mul-if2 c = search needs
+mul-if2 c = omega (arith, above _ _ _ _ _ _ _ _ _ (c .before .before .before .before .before .before .before .pre), c .before .before .before .before .before .before .before .pre .queued .within, c .before .before .before .before .before .before .before .pre .words .same, c .before .before .before .before .before .before .before .pre .words .few)
 
--- src/lib.rt:238:8
 shared-slice-read-if2 : tie.Need-shared-slice-read-if2
-shared-slice-read-if2 c = search needs
+shared-slice-read-if2 c = omega (arith, above _ _ _ _ _ _ _ _ _ (c .before .before .before .before .before .before .before .before .pre), c .before .before .before .before .before .before .before .before .pre .queued .within, c .before .before .before .before .before .before .before .before .pre .words .same)
 
--- src/lib.rt:239:9
 pass-requires-2 : tie.Need-pass-requires-2
-pass-requires-2 c κs = search needs
+pass-requires-2 c κs = (omega (arith, c .before .before .before .before .before .before .before .before .before .before .pre .enough), omega (arith, c .before .before .before .before .before .before .before .before .before .before .pre .queued .within, c .before .before .before .before .before .before .before .before .before .before .pre .words .few))
 
--- src/lib.rt:239:9
 same-length-2 : tie.Need-same-length-2
 same-length-2 c = search needs
 
--- src/lib.rt:239:9
 returns-2 : tie.Need-returns-2
-returns-2 c = ?
+returns-2 c = considering-none _ _ _ _ _ _ _ _ _ (c .before .before .before .before .before .before .before .before .before .before .before .before .before .pre) _ _ _ _ (c .before .before .before .before .if2 .taken) (c .before .before .pass2 .ensures)
 
--- src/lib.rt:241:5
 add-requires : tie.Need-add-requires
-add-requires c κs = ?
+add-requires c κs = considering-add _ _ _ _ _ _ _ _ _ (c .before .before .before .before .before .before .before .before .before .before .before .pre) _ (c .before .before .before .before .before .before .line .ensures) (c .before .before .before .before .if1 .left) (c .before .before .if2 .left)
 
--- src/lib.rt:221:1
 same-length-3 : tie.Need-same-length-3
 same-length-3 c = search needs
 
--- src/lib.rt:221:1
 same-length-4 : tie.Need-same-length-4
 same-length-4 c = search needs
 
--- src/lib.rt:221:1
 returns-3 : tie.Need-returns-3
-returns-3 c = ?
+returns-3 c = considering-done _ _ _ _ _ _ _ _ _ (c .before .before .before .before .before .before .before .before .before .before .before .before .before .before .before .before .pre) _ _ _ _ _ _ (c .before .before .before .before .before .before .before .before .before .before .before .line .ensures) (c .before .before .before .before .before .before .before .before .before .if1 .left) (c .before .before .before .before .before .before .before .if2 .left) (c .before .before .before .before .add .ensures)
 
 pub consider-spec : {M : Type 1} → statement M
 consider-spec =

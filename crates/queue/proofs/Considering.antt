@@ -1,0 +1,78 @@
+-- A candidate is passed, or added; and the candidates one after the other. Assumes nothing.
+use Prim.Native.Nat.{ℕ, _+_, _-_, _*_, _^_, _≤_, _<_}
+use mathlib.Core.Path.{_≡_, refl, ap, sym, subst, _∙_}
+use mathlib.Core.Logic.{⊎-elim}
+use mathlib.Core.List.{List, [], _∷_}
+use native.Mathlib.Omega.{arith}
+use borrow.Author.Tests.{eq-eqb}
+use borrow.Rule.Slice.PartMut.{putMid}
+use lib.ListN.{length, getD, take, drop}
+use lib.Seq.{slice, length-slice}
+use Rattle.laws.specs.Number.{split}
+use Rattle.laws.specs.Cost.{Cost, none, some, Has}
+use Rattle.laws.specs.Members.{Every, every-map, Falls}
+use Rattle.paper.specs.declared.Limits.{Limits}
+use Rattle.paper.specs.declared.Kind.the-variants.{Pass}
+use Rattle.paper.specs.Moves.{Taken, move, moved, still, joined}
+use Rattle.paper.specs.QueueRules.{Text, Standing, add, consider, candidates}
+use Rattle.queue_right.specs.Turns.{consider-long, consider-none, consider-add, consider-gives, candidates-more, candidates-stop}
+use Rattle.queue_right.specs.Ready.{add-every, add-falls}
+use Rattle.queue_right.specs.Count.{consider-count}
+use Rattle.lines.specs.Held.{span, costOf, textIn, cost-number}
+use Rattle.strips.specs.Running.{Running, Ran, running-first, running-same, running-part, running-done, running-length, written}
+use Rattle.queue.specs.declared.Queue.{Queue}
+use Rattle.queue.specs.Asks.{Words, Member, Bests, Queued, AddAsks, ConsiderAsks, CandidatesAsks, Passes, Added, Left, Considered}
+
+-- a candidate that is considered is above the start
+reaches : (S : List ℕ) (i j lmin : ℕ) → 1 ≤ lmin → lmin ≤ span S i j → i ≤ j → i < j
+reaches S i j lmin low reach near =
+    ⊎-elim
+    (λ h. let e : j ≡ i = omega arith in absurd (omega (arith, rw e at reach)))
+    (λ h. h)
+    (split j i)
+
+module _ (l : Limits) (i j : ℕ) (S B Q : List ℕ) (f e room : ℕ) (a : ConsiderAsks l i j S B Q f e room) where
+  pub above : i < j
+  above = reaches S i j (l .lmin) (a .words .ranges .lmin-low) (a .reach) (a .queued .near)
+
+  -- its entry of the best strip is a number
+  pub numbered : (getD B (j - 1) 0 ≡ 2 ^ 64 - 1 → ⊥) → getD B (j - 1) 0 < 2 ^ 40
+  numbered other = ⊎-elim (λ h. absurd (other h)) (λ h. h) (a .bests j above (omega (arith, a .queued .within, a .words .same)))
+
+  pub considering-new : (x : ℕ) → x ≡ span S i j → x ≤ l .lmax → (getD B (j - 1) 0 ≡ 2 ^ 64 - 1 → ⊥) → Member l S B i j
+  considering-new x v short other = record {
+    break = record { first = a .first; above = above; within = a .queued .within };
+    measure = record { ranges = a .words .ranges; low = a .reach; high = omega arith };
+    number = record { within = omega (arith, a .queued .within, a .words .same); small = numbered other };
+  }
+
+  pub considering-add : (x : ℕ) → x ≡ span S i j → x ≤ l .lmax → (getD B (j - 1) 0 ≡ 2 ^ 64 - 1 → ⊥) → AddAsks l i j S B Q f e room
+  considering-add x v short other = record { words = a .words; queued = a .queued; new = considering-new x v short other; enough = a .enough }
+
+  passed : (m₀ : List ℕ) (r taken : ℕ) (m : List ℕ) → consider (textIn l S B) i j (slice f e Q) ≡ moved (move Pass j) (still (slice f e Q)) →
+      Passes j e m₀ r taken m → Added (consider (textIn l S B) i j (slice f e Q)) Q f e m₀ r taken Q m
+  passed m₀ r taken m is p = record {
+    moves = p .moves ∙ ap (λ (t : Taken (List ℕ)). written (t .moves) m₀) (sym is);
+    count = p .count ∙ ap (λ (t : Taken (List ℕ)). length (t .moves)) (sym is);
+    stands = ap (λ (t : Taken (List ℕ)). t .stands) is ∙ ap (λ (k : ℕ). slice f k Q) (sym (p .stays));
+    low = omega (arith, p .stays, a .queued .order);
+    high = omega (arith, p .stays);
+    same = refl;
+  }
+
+  pub considering-long : (x : ℕ) (m₀ : List ℕ) (r taken : ℕ) (m : List ℕ) → x ≡ span S i j → l .lmax < x → Passes j e m₀ r taken m →
+      Added (consider (textIn l S B) i j (slice f e Q)) Q f e m₀ r taken Q m
+  unfolding textIn
+  considering-long x m₀ r taken m v long p = passed m₀ r taken m (consider-long (textIn l S B) i j (slice f e Q) (rw v at long)) p
+
+  pub considering-none : (m₀ : List ℕ) (r taken : ℕ) (m : List ℕ) → getD B (j - 1) 0 ≡ 2 ^ 64 - 1 → Passes j e m₀ r taken m →
+      Added (consider (textIn l S B) i j (slice f e Q)) Q f e m₀ r taken Q m
+  unfolding textIn costOf
+  considering-none m₀ r taken m v p =
+      passed m₀ r taken m (consider-none (textIn l S B) i j (slice f e Q) (λ h. rw (eq-eqb (getD B (j - 1) 0) (2 ^ 64 - 1) v) at h)) p
+
+  pub considering-done : (x : ℕ) (m₀ : List ℕ) (r taken : ℕ) (Q′ m : List ℕ) → x ≡ span S i j → x ≤ l .lmax → (getD B (j - 1) 0 ≡ 2 ^ 64 - 1 → ⊥) →
+      Added (add (textIn l S B) i j (slice f e Q)) Q f e m₀ r taken Q′ m → Added (consider (textIn l S B) i j (slice f e Q)) Q f e m₀ r taken Q′ m
+  unfolding textIn
+  considering-done x m₀ r taken Q′ m v short other d =
+      rw (consider-add (textIn l S B) i j (slice f e Q) (rw v at short) (rw (cost-number (getD B (j - 1) 0) (omega (arith, numbered other))) tt)) d
