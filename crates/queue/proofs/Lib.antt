@@ -4,3 +4,4 @@ pub mod Members
 pub mod Adding
 pub mod Passing
 pub mod Considering
+pub mod Going
