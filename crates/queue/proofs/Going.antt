@@ -82,7 +82,7 @@ module _ (l : Limits) (i : ℕ) (S B Q₀ : List ℕ) (f e c : ℕ) (m₀ : List
           let stood : length (slice f r Q) ≡ r - f = length-slice f r Q (g .queued .standing) in
           let stands : length (s .stands) ≡ r′ - f = ap length (d .stands) ∙ length-slice f r′ Q′ standing in
           let next : Running whole (joined s (candidates (textIn l S B) i (j - 1))) m₀ m taken =
-              running-same whole m₀ m taken (candidates-more (textIn l S B) i (j - 1) j (slice f r Q) (omega (arith, past)) (rw v at reach)) (g .run) in
+          running-same whole m₀ m taken (candidates-more (textIn l S B) i (j - 1) j (slice f r Q) (omega (arith, past)) (rw v at reach)) (g .run) in
           let run = running-part whole m₀ m taken s (candidates (textIn l S B) i (j - 1)) n more next (d .moves) (d .count) (omega (arith, d .count, g .enough, past, a .first)) in
           record {
             run = subst (λ (z : List ℕ). Running whole (candidates (textIn l S B) i (j - 1) z) m₀ (putMid taken (length m - taken) m n) (taken + more)) (d .stands) run;
@@ -106,5 +106,5 @@ module _ (l : Limits) (i : ℕ) (S B Q₀ : List ℕ) (f e c : ℕ) (m₀ : List
     unfolding whole textIn
     going-done short =
         let d = running-done whole m₀ m taken (record { queue = slice f r Q; candidate = j })
-            (running-same whole m₀ m taken (candidates-stop (textIn l S B) i j (slice f r Q) (rw v at short)) (g .run)) in
+        (running-same whole m₀ m taken (candidates-stop (textIn l S B) i j (slice f r Q) (rw v at short)) (g .run)) in
         record { left = record { moves = d .moves; count = d .count; stands = d .stands; same = g .same; queued = g .queued }; front = refl }

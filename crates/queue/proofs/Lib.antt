@@ -5,3 +5,4 @@ pub mod Adding
 pub mod Passing
 pub mod Considering
 pub mod Going
+pub mod Starting

@@ -13,9 +13,9 @@ ghost use lib.ListN.{length};
 ghost use lib.Seq.{slice};
 ghost use Prim.Native.Nat.{ℕ, _≤_};
 ghost use mathlib.Core.List.{List, reverse};
-ghost use Rattle.paper.specs.QueueRules.{dropLong, popWorse, popBridged, add as isAdd, consider as isConsider, dropWorse};
+ghost use Rattle.paper.specs.QueueRules.{dropLong, popWorse, popBridged, add as isAdd, consider as isConsider, dropWorse, atStart};
 ghost use Rattle.lines.specs.Held.{textIn};
-ghost use Rattle.queue.specs.Asks.{DropLongAsks, DropWorseAsks, PopWorseAsks, PopBridgedAsks, AddAsks, ConsiderAsks, CandidatesAsks, Dropped, Popped, Passes, Added, Considered};
+ghost use Rattle.queue.specs.Asks.{DropLongAsks, DropWorseAsks, PopWorseAsks, PopBridgedAsks, AddAsks, ConsiderAsks, CandidatesAsks, StartAsks, Dropped, Popped, Passes, Added, Considered, Left};
 
 // The place behind the rear, and the moves taken.
 pub struct Rear {
@@ -270,5 +270,44 @@ fn candidates(
         end: rear,
         candidate: j,
         moves: taken,
+    }
+}
+
+// The three rules at start i, each lent the moves strip after those before it.
+pub fn at_start(
+    l: Limits,
+    i: usize,
+    sums: &[u32],
+    best: &[u64],
+    queue: &mut [u32],
+    q: Queue,
+    moves: &mut [u32],
+) -> Queue
+    requires { ⌜ StartAsks l i (now sums) (now best) (now queue) (q .front) (q .end) (q .candidate) (length (now moves)) ⌝ }
+    ensures { λ r. ⌜ Left l i (now (sums .entry)) (now (best .entry)) (atStart (textIn l (now (sums .entry)) (now (best .entry))) i (record { queue = slice (q .front) (q .end) (now (queue .entry)); candidate = q .candidate })) (now (queue .entry)) (now (moves .entry)) r (now (queue .exit)) (now (moves .exit)) ⌝ }
+{
+    let from = q.front;
+    let end = q.end;
+    let front = drop_long(l, i, sums, queue, from, end, moves);
+    let long = front - from;
+    let stood = candidates(
+        l,
+        i,
+        sums,
+        best,
+        queue,
+        front,
+        end,
+        q.candidate,
+        &mut moves[long..],
+    );
+    let taken = long + stood.moves;
+    let rear = stood.end;
+    let lead = drop_worse(l, i, sums, best, queue, front, rear, &mut moves[taken..]);
+    Queue {
+        front: lead,
+        end: rear,
+        candidate: stood.candidate,
+        moves: taken + (lead - front),
     }
 }
