@@ -5,15 +5,15 @@ use mathlib.Core.List.{List}
 use native.Mathlib.Omega.{arith}
 use borrow.Author.Tests.{le-leb, lt-leb, le-ltb, lt-ltb, ne-eqb}
 use lib.ListN.{length, getD, drop, length-drop}
-use Rattle.laws.specs.Number.{if}
 use Rattle.laws.specs.Strip.{over, over-front}
 use Rattle.paper.specs.Allowed.{mostWords}
 use Rattle.paper.specs.declared.Refusal.{Refusal}
 use Rattle.paper.specs.declared.Refusal.the-variants.{Many, Room, Job as Malformed}
 use Rattle.job.specs.declared.Asked.{Asked}
 use Rattle.job.specs.declared.Job.the-variants.{Read, Refused}
-use Rattle.job.specs.Reader.{Reading, refuse, accept, section, counted, toEnd, lengthsFrom, lengthsAfter, four, two, limitsFrom, outcome}
-use Rattle.job.specs.Section.{listed, SectionIs, Promise}
+use Rattle.job.specs.Reader.{Reading, refuse, accept, section, counted, toEnd, lengthsFrom, lengthsAfter, four, two, limitsFrom, reading, outcome}
+use Rattle.job.specs.Section.{listed, SectionIs}
+use Rattle.job.specs.Promise.{Promise}
 use Rattle.job.proofs.Numbers.{length-listed, numbers-whole, numbers-cut}
 
 -- ---- a section as the section reader leaves it, cut or whole: the strip
@@ -109,6 +109,16 @@ module _ (job : List ℕ) (room : ℕ) {part : List ℕ} (from : part ≡ drop 4
   two-whole s h =
       let entry = section-entry s h in
       section-whole job 4 from s h (λ l. lengthsAfter job room 12 (two l)) ∙ rw (entry 0 (omega arith), entry 1 (omega arith))
+
+-- ---- the first count
+module _ (job : List ℕ) (room : ℕ) {before : List ℕ} {complete : ℕ} {after : List ℕ} (s : SectionIs job 1 before complete after) where
+  pub first-cut : complete < 1 → reading job room ≡ refuse (Malformed 0)
+  unfolding reading
+  first-cut h = count-cut job 0 refl s h (limitsFrom job room)
+
+  pub first-whole : 1 ≤ complete → reading job room ≡ limitsFrom job room (getD after 0 0)
+  unfolding reading
+  first-whole h = count-whole job 0 refl s h (limitsFrom job room)
 
 pub neither : (job : List ℕ) (room count : ℕ) → (count ≡ 4 → ⊥) → (count ≡ 2 → ⊥) → limitsFrom job room count ≡ refuse (Malformed 0)
 unfolding limitsFrom

@@ -1,4 +1,4 @@
--- What the parts of the reader promise, over lists and numbers. Assumes nothing.
+-- What the section reader leaves, over lists and numbers: the contract of the reader's one loop. Assumes nothing.
 use Prim.Native.Nat.{ℕ, zero, suc, _*_, _/_, min}
 use mathlib.Core.Path.{_≡_}
 use mathlib.Core.List.{List, [], _∷_, _++_}
@@ -6,8 +6,7 @@ use lib.Dec.{leb}
 use lib.ListN.{length}
 use Rattle.laws.specs.Number.{if}
 use Rattle.laws.specs.Strip.{over}
-use Rattle.job.specs.declared.Job.{Job}
-use Rattle.job.specs.Reader.{number, ReadOutcome}
+use Rattle.job.specs.Reader.{number}
 
 -- the first n numbers of a part, each found by its place
 unfoldable pub listed : List ℕ → ℕ → List ℕ
@@ -18,8 +17,3 @@ listed part (suc k) = listed part k ++ (number part (4 * k) ∷ [])
 pub record SectionIs (part : List ℕ) (n : ℕ) (before : List ℕ) (complete : ℕ) (after : List ℕ) : Type 0 where
   pub count : complete ≡ min n (length part / 4)
   pub strip : after ≡ if (leb n (length part / 4)) (over (listed part n) before) before
-
--- the answer and the lengths strip at exit are those of the outcome
-pub record Promise (o : ReadOutcome) (answer : Job) (lengths : List ℕ) : Type 0 where
-  pub answered : answer ≡ o .answer
-  pub left : lengths ≡ o .lengths

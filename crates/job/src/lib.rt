@@ -2,12 +2,12 @@
 use paper::Limits;
 use paper::PageLimits;
 use paper::Refusal;
-
 ghost use mathlib.Core.Path.{_≡_};
 ghost use Prim.Native.Nat.{_+_, _≤_, _<_};
 ghost use lib.ListN.{length};
 ghost use Rattle.job.specs.Reader.{number, lengthsFrom, lengthsAfter, limitsFrom, outcome, readOutcome};
-ghost use Rattle.job.specs.Section.{SectionIs, Promise};
+ghost use Rattle.job.specs.Section.{SectionIs};
+ghost use Rattle.job.specs.Promise.{Promise};
 
 // What a job asks for, with its limits.
 pub enum Asked {
@@ -21,18 +21,22 @@ pub enum Job {
     Refused(Refusal),
 }
 
+// A byte as a 32-bit number.
 fn wide(b: u8) -> u32
     ensures { λ r. ⌜ (r ≡ b) × (r < 256) ⌝ }
 {
     b as u32
 }
 
-// The number whose first byte is at.
+// The number whose first byte is byte at of the part.
 fn number(part: &[u8], at: usize) -> u32
     requires { ⌜ at + 4 ≤ length (now part) ⌝ }
     ensures { λ r. ⌜ r ≡ number (now (part .entry)) at ⌝ }
 {
-    wide(part[at]) + 256 * wide(part[at + 1]) + 65536 * wide(part[at + 2]) + 16777216 * wide(part[at + 3])
+    wide(part[at])
+        + 256 * wide(part[at + 1])
+        + 65536 * wide(part[at + 2])
+        + 16777216 * wide(part[at + 3])
 }
 
 // The section reader. The part of the job after a count is to have n numbers: the answer is how many of them are complete, and
@@ -56,7 +60,9 @@ fn section(part: &[u8], n: usize, out: &mut [u32]) -> usize
 // The n lengths from byte at on, and then the end of the job.
 fn lengths_from(job: &[u8], asked: Asked, at: usize, count: u32, lengths: &mut [u32]) -> Job
     requires { ⌜ at ≤ length (now job) ⌝ }
-    ensures { λ r. ⌜ Promise (outcome (lengthsFrom (now (job .entry)) (length (now (lengths .entry))) asked at count) (now (lengths .entry))) r (now (lengths .exit)) ⌝ }
+    ensures { λ r. ⌜ Promise
+        (outcome (lengthsFrom (now (job .entry)) (length (now (lengths .entry))) asked at count) (now (lengths .entry)))
+        r (now (lengths .exit)) ⌝ }
 {
     if 4096 < count {
         return Job::Refused(Refusal::Many);
@@ -79,7 +85,9 @@ fn lengths_from(job: &[u8], asked: Asked, at: usize, count: u32, lengths: &mut [
 // The lengths, whose count stands at byte at.
 fn lengths_after(job: &[u8], at: usize, asked: Asked, lengths: &mut [u32]) -> Job
     requires { ⌜ at ≤ length (now job) ⌝ }
-    ensures { λ r. ⌜ Promise (outcome (lengthsAfter (now (job .entry)) (length (now (lengths .entry))) at asked) (now (lengths .entry))) r (now (lengths .exit)) ⌝ }
+    ensures { λ r. ⌜ Promise
+        (outcome (lengthsAfter (now (job .entry)) (length (now (lengths .entry))) at asked) (now (lengths .entry)))
+        r (now (lengths .exit)) ⌝ }
 {
     let mut count = [0u32; 1];
     if section(&job[at..], 1, &mut count) < 1 {
@@ -91,28 +99,40 @@ fn lengths_after(job: &[u8], at: usize, asked: Asked, lengths: &mut [u32]) -> Jo
 // A paragraph's limits, from byte 4 on, and then its lengths.
 fn paragraph(job: &[u8], lengths: &mut [u32]) -> Job
     requires { ⌜ 4 ≤ length (now job) ⌝ }
-    ensures { λ r. ⌜ Promise (outcome (limitsFrom (now (job .entry)) (length (now (lengths .entry))) 4) (now (lengths .entry))) r (now (lengths .exit)) ⌝ }
+    ensures { λ r. ⌜ Promise
+        (outcome (limitsFrom (now (job .entry)) (length (now (lengths .entry))) 4) (now (lengths .entry)))
+        r (now (lengths .exit)) ⌝ }
 {
     let mut l = [0u32; 4];
     let complete = section(&job[4..], 4, &mut l);
     if complete < 4 {
         return Job::Refused(Refusal::Job(4 + 4 * complete));
     }
-    let limits = Limits { lmin: l[0], lopt: l[1], lmax: l[2], a: l[3] };
+    let limits = Limits {
+        lmin: l[0],
+        lopt: l[1],
+        lmax: l[2],
+        a: l[3],
+    };
     lengths_after(job, 20, Asked::Paragraph(limits), lengths)
 }
 
-// The limits of an index.
+// An index's limits, from byte 4 on, and then its lengths.
 fn index(job: &[u8], lengths: &mut [u32]) -> Job
     requires { ⌜ 4 ≤ length (now job) ⌝ }
-    ensures { λ r. ⌜ Promise (outcome (limitsFrom (now (job .entry)) (length (now (lengths .entry))) 2) (now (lengths .entry))) r (now (lengths .exit)) ⌝ }
+    ensures { λ r. ⌜ Promise
+        (outcome (limitsFrom (now (job .entry)) (length (now (lengths .entry))) 2) (now (lengths .entry)))
+        r (now (lengths .exit)) ⌝ }
 {
     let mut l = [0u32; 2];
     let complete = section(&job[4..], 2, &mut l);
     if complete < 2 {
         return Job::Refused(Refusal::Job(4 + 4 * complete));
     }
-    let limits = PageLimits { lmin: l[0], lmax: l[1] };
+    let limits = PageLimits {
+        lmin: l[0],
+        lmax: l[1],
+    };
     lengths_after(job, 12, Asked::Index(limits), lengths)
 }
 

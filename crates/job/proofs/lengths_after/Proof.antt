@@ -1,3 +1,4 @@
+-- `job::lengths_after` meets its contract: a count that is cut is refused, one that is whole is handed on. Assumes nothing.
 use mathlib.Core.Path.{refl}
 use Prim.Native.Nat.{_+_}
 use borrow.Author.Needs.{needs}
@@ -8,55 +9,40 @@ use Rattle.job.specs.Reader.{lengthsFrom, lengthsAfter}
 use Rattle.job.proofs.Answers.{refused, count-cut, count-whole}
 use Rattle.job.proofs.lengths_after.Statement.{statement}
 use Rattle.job.proofs.lengths_after.Tie as tie
-use Rattle.job.proofs.lengths_after.Reads as reads
-use Rattle.job.proofs.lengths_after.Lts as lts
-use Rattle.job.proofs.lengths_from.Reads as lengths-from-reads
-use Rattle.job.proofs.section.Reads as section-reads
 
--- src/lib.rt:85:16
 sub-section : tie.Need-sub-section
 sub-section c = search needs
 
--- src/lib.rt:85:16
 part-section-start : tie.Need-part-section-start
 part-section-start c = search needs
 
--- src/lib.rt:85:16
 part-section-end : tie.Need-part-section-end
 part-section-end c = search needs
 
--- src/lib.rt:85:31
 slice-aggregate-section : tie.Need-slice-aggregate-section
 slice-aggregate-section c = search needs
 
--- src/lib.rt:85:8
 section-requires : tie.Need-section-requires
 section-requires c κs = search needs
 
--- src/lib.rt:86:9
 returns : tie.Need-returns
 unfolding lengthsAfter
 returns c =
     let st = c .before .before .before .before .before .before .before in
     refused _ _ _ _ (count-cut _ _ (lent-is (now (st .args .job)) (st .args .at)) (c .before .before .section .ensures) (c .if1 .taken) _) refl
 
--- src/lib.rt:88:30
 add-lengths-from : tie.Need-add-lengths-from
 add-lengths-from c = search needs
 
--- src/lib.rt:88:38
 array-read-lengths-from : tie.Need-array-read-lengths-from
 array-read-lengths-from c = search needs
 
--- src/lib.rt:88:5
 lengths-from-requires : tie.Need-lengths-from-requires
 lengths-from-requires c κs = search needs
 
--- src/lib.rt:80:1
 same-length : tie.Need-same-length
 same-length c = search needs
 
--- src/lib.rt:80:1
 returns-2 : tie.Need-returns-2
 unfolding lengthsAfter
 returns-2 c =

@@ -9,43 +9,31 @@ use Rattle.job.proofs.Numbers.{length-listed}
 use Rattle.job.proofs.Answers.{section-kept, section-written, refused, accepted, lengths-many, lengths-room, lengths-left, lengths-cut, lengths-whole}
 use Rattle.job.proofs.lengths_from.Statement.{statement}
 use Rattle.job.proofs.lengths_from.Tie as tie
-use Rattle.job.proofs.lengths_from.Reads as reads
-use Rattle.job.proofs.lengths_from.Lts as lts
-use Rattle.job.proofs.section.Reads as section-reads
 
--- src/lib.rt:62:9
 returns : tie.Need-returns
 returns c = refused _ _ _ _ (lengths-many _ _ _ _ _ (c .if1 .taken)) refl
 
--- src/lib.rt:66:9
 returns-2 : tie.Need-returns-2
 returns-2 c = refused _ _ _ _ (lengths-room _ _ _ _ _ (c .before .if1 .left) (c .if2 .taken)) refl
 
--- src/lib.rt:68:16
 sub-part : tie.Need-sub-part
 sub-part c = search needs
 
--- src/lib.rt:68:16
 part-part-start : tie.Need-part-part-start
 part-part-start c = search needs
 
--- src/lib.rt:68:16
 part-part-end : tie.Need-part-part-end
 part-part-end c = search needs
 
--- src/lib.rt:69:8
 mul-if3 : tie.Need-mul-if3
 mul-if3 c = search needs
 
--- src/lib.rt:70:47
 mul-t16 : tie.Need-mul-t16
 mul-t16 c = search needs
 
--- src/lib.rt:70:42
 add-t17 : tie.Need-add-t17
 add-t17 c = search needs
 
--- src/lib.rt:70:9
 returns-3 : tie.Need-returns-3
 returns-3 c =
     let st = c .before .before .before .before .before .before in
@@ -53,23 +41,18 @@ returns-3 c =
     let a = st .args .at in
     refused _ _ _ _ (lengths-left _ _ _ _ _ (omega arith) (omega arith) (omega (arith, ap length (lent-is j a), length-drop a j))) refl
 
--- src/lib.rt:72:9
 section-requires : tie.Need-section-requires
 section-requires c κs = search needs
 
--- src/lib.rt:74:47
 mul-t21 : tie.Need-mul-t21
 mul-t21 c = search needs
 
--- src/lib.rt:74:42
 add-t22 : tie.Need-add-t22
 add-t22 c = search needs
 
--- src/lib.rt:74:9
 same-length : tie.Need-same-length
 same-length c = search needs
 
--- src/lib.rt:74:9
 returns-4 : tie.Need-returns-4
 returns-4 c =
     let st = c .before .before .before .before .before .before .before .before .before .before .before in
@@ -77,11 +60,9 @@ returns-4 c =
     let r = c .before .before .before .section .ensures in
     refused _ _ _ _ (lengths-cut _ _ _ _ _ from r (omega arith) (omega arith) (c .if4 .taken)) (section-kept r (c .if4 .taken))
 
--- src/lib.rt:57:1
 same-length-2 : tie.Need-same-length-2
 same-length-2 c = search needs
 
--- src/lib.rt:57:1
 returns-5 : tie.Need-returns-5
 returns-5 c =
     let st = c .before .before .before .before .before .before .before .before .before .before .before in

@@ -1,3 +1,4 @@
+-- `job::paragraph` meets its contract: limits that are cut are refused, and those that are whole are handed on. Assumes nothing.
 use mathlib.Core.Path.{refl}
 use borrow.Author.Needs.{needs}
 use denote.Ref.{now}
@@ -7,70 +8,51 @@ use Rattle.job.specs.Reader.{four}
 use Rattle.job.proofs.Answers.{refused, four-cut, four-whole}
 use Rattle.job.proofs.paragraph.Statement.{statement}
 use Rattle.job.proofs.paragraph.Tie as tie
-use Rattle.job.proofs.paragraph.Reads as reads
-use Rattle.job.proofs.paragraph.Lts as lts
-use Rattle.job.proofs.lengths_after.Reads as lengths-after-reads
-use Rattle.job.proofs.section.Reads as section-reads
 
--- src/lib.rt:96:28
 sub-section : tie.Need-sub-section
 sub-section c = search needs
 
--- src/lib.rt:96:28
 part-section-start : tie.Need-part-section-start
 part-section-start c = search needs
 
--- src/lib.rt:96:28
 part-section-end : tie.Need-part-section-end
 part-section-end c = search needs
 
--- src/lib.rt:96:42
 slice-aggregate-section : tie.Need-slice-aggregate-section
 slice-aggregate-section c = search needs
 
--- src/lib.rt:96:9
 section-requires : tie.Need-section-requires
 section-requires c κs = search needs
 
--- src/lib.rt:98:46
 mul-t13 : tie.Need-mul-t13
 mul-t13 c = search needs
 
--- src/lib.rt:98:42
 add-t14 : tie.Need-add-t14
 add-t14 c = search needs
 
--- src/lib.rt:98:9
 returns : tie.Need-returns
 returns c =
     let st = c .before .before .before .before .before .before .before in
     refused _ _ _ _ (four-cut _ _ (lent-is (now (st .args .job)) 4) (c .before .before .section .ensures) (c .if1 .taken)) refl
 
--- src/lib.rt:100:33
 array-read-t18 : tie.Need-array-read-t18
 array-read-t18 c = search needs
 
--- src/lib.rt:100:45
 array-read-t21 : tie.Need-array-read-t21
 array-read-t21 c = search needs
 
--- src/lib.rt:100:57
 array-read-t24 : tie.Need-array-read-t24
 array-read-t24 c = search needs
 
--- src/lib.rt:100:66
 array-read-t27 : tie.Need-array-read-t27
 array-read-t27 c = search needs
 
--- src/lib.rt:101:5
 lengths-after-requires : tie.Need-lengths-after-requires
 lengths-after-requires c κs = search needs
 
--- src/lib.rt:91:1
 same-length : tie.Need-same-length
 same-length c = search needs
 
--- src/lib.rt:91:1
 returns-2 : tie.Need-returns-2
 unfolding four
 returns-2 c =

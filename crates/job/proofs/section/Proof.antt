@@ -7,9 +7,6 @@ use borrow.Author.Tests.{lt-leb}
 use Rattle.job.proofs.Numbers.{Written, written-none, written-more, written-all}
 use Rattle.job.proofs.section.Statement.{statement}
 use Rattle.job.proofs.section.Tie as tie
-use Rattle.job.proofs.section.Reads as reads
-use Rattle.job.proofs.section.Lts as lts
-use Rattle.job.proofs.number.Reads as number-reads
 
 abbrev Inv-loop : tie.InvT-loop
 Inv-loop part n out₀ complete k₀ out k = Written part n k out₀ out
