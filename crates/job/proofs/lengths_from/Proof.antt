@@ -11,10 +11,10 @@ use Rattle.job.proofs.lengths_from.Statement.{statement}
 use Rattle.job.proofs.lengths_from.Tie as tie
 
 returns : tie.Need-returns
-returns c = refused _ _ _ _ (lengths-many _ _ _ _ _ (c .if1 .taken)) refl
+returns c = refused _ _ _ _ (lengths-many _ _ _ _ _ (omega arith)) refl
 
 returns-2 : tie.Need-returns-2
-returns-2 c = refused _ _ _ _ (lengths-room _ _ _ _ _ (c .before .if1 .left) (c .if2 .taken)) refl
+returns-2 c = refused _ _ _ _ (lengths-room _ _ _ _ _ (omega arith) (omega arith)) refl
 
 sub-part : tie.Need-sub-part
 sub-part c = search needs
@@ -58,7 +58,7 @@ returns-4 c =
     let st = c .before .before .before .before .before .before .before .before .before .before .before in
     let from = lent-is (now (st .args .job)) (st .args .at) in
     let r = c .before .before .before .section .ensures in
-    refused _ _ _ _ (lengths-cut _ _ _ _ _ from r (omega arith) (omega arith) (c .if4 .taken)) (section-kept r (c .if4 .taken))
+    refused _ _ _ _ (lengths-cut _ _ _ _ _ from r (omega arith) (omega arith) (omega arith)) (section-kept r (omega arith))
 
 same-length-2 : tie.Need-same-length-2
 same-length-2 c = search needs
@@ -71,9 +71,9 @@ returns-5 c =
     let from = lent-is j a in
     let r = c .before .before .before .section .ensures in
     accepted _ _ _ _ _ _
-    (lengths-whole _ _ _ _ _ from r (omega arith) (omega arith) (c .if4 .left) (omega (arith, ap length from, length-drop a j)))
+    (lengths-whole _ _ _ _ _ from r (omega arith) (omega arith) (omega arith) (omega (arith, ap length from, length-drop a j)))
     (sym (length-listed _ _))
-    (section-written r (c .if4 .left))
+    (section-written r (omega arith))
 
 pub lengths-from-spec : {M : Type 1} → statement M
 lengths-from-spec =

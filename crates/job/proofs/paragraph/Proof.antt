@@ -1,5 +1,6 @@
 -- `job::paragraph` meets its contract: limits that are cut are refused, and those that are whole are handed on. Assumes nothing.
 use mathlib.Core.Path.{refl}
+use native.Mathlib.Omega.{arith}
 use borrow.Author.Needs.{needs}
 use denote.Ref.{now}
 use lib.ListN.{length}
@@ -33,7 +34,7 @@ add-t14 c = search needs
 returns : tie.Need-returns
 returns c =
     let st = c .before .before .before .before .before .before .before in
-    refused _ _ _ _ (four-cut _ _ (lent-is (now (st .args .job)) 4) (c .before .before .section .ensures) (c .if1 .taken)) refl
+    refused _ _ _ _ (four-cut _ _ (lent-is (now (st .args .job)) 4) (c .before .before .section .ensures) (omega arith)) refl
 
 array-read-t18 : tie.Need-array-read-t18
 array-read-t18 c = search needs
@@ -59,7 +60,7 @@ returns-2 c =
     let st = c .before .before .before .before .before .before .before .before .before .before .before in
     let j = now (st .args .job) in
     let read = c .before .before .before .before .before .before .section .ensures in
-    rw (four-whole j (length (now (st .args .lengths))) (lent-is j 4) read (c .before .before .before .before .if1 .left)) (c .before .before .lengths-after .ensures)
+    rw (four-whole j (length (now (st .args .lengths))) (lent-is j 4) read (omega arith)) (c .before .before .lengths-after .ensures)
 
 pub paragraph-spec : {M : Type 1} → statement M
 paragraph-spec =
