@@ -8,9 +8,11 @@ use borrow.Author.Tests.{ltb-false}
 use lib.Dec.{ltb, eqb}
 use lib.ListN.{length, getD, drop}
 use Rattle.laws.specs.Number.{if}
+use Rattle.laws.specs.Strip.{over, length-over}
 use Rattle.paper.specs.declared.Refusal.the-variants.{Job as Malformed}
 use Rattle.paper.specs.Allowed.{mostWords}
 use Rattle.job.specs.declared.Asked.{Asked}
+use Rattle.job.specs.declared.Job.{Job}
 use Rattle.job.specs.declared.Job.the-variants.{Read}
 use Rattle.job.specs.Reader.{Reading, refuse, accept, number, numbers, section, counted, toEnd, lengthsFrom, lengthsAfter, four, two, limitsFrom, reading, readOutcome}
 use Rattle.job.specs.Promise.{Promise, accepted-writes}
@@ -59,9 +61,17 @@ module _ (job : List ℕ) (room : ℕ) where
       section-fits 0 1 _ (λ xs e. if-fits room (eqb (getD xs 0 0) 4) _ _ (section-fits 4 4 _ (λ l f. after-fits 20 (four l)))
       (λ other. if-fits room (eqb (getD xs 0 0) 2) _ _ (section-fits 4 2 _ (λ l f. after-fits 12 (two l))) (λ bad. tt)))
 
-pub read-fits : (job s : List ℕ) (asked : Asked) (n : ℕ) (t : List ℕ) → Promise (readOutcome job s) (Read asked n) t → (n ≤ length s) × (n ≤ mostWords)
+-- what one who reads a job and goes on to its n lengths has to know
+pub record ReadFits (s : List ℕ) (n : ℕ) (t : List ℕ) : Type 0 where
+  pub before : n ≤ length s
+  pub after : n ≤ length t
+  pub few : n ≤ mostWords
+
+pub read-fits : (job s : List ℕ) {r : Job} {t : List ℕ} {asked : Asked} {n : ℕ} → Promise (readOutcome job s) r t → r ≡ Read asked n → ReadFits s n t
 unfolding readOutcome
-read-fits job s asked n t p =
-    let a = accepted-writes (reading job (length s)) s asked n t p in
+read-fits job s {t = t} {asked = asked} p e =
+    let a = accepted-writes (reading job (length s)) s p e in
     let f : Fits (length s) (accept asked (a .lengths)) = subst (Fits (length s)) (a .is) (reading-fits job (length s)) in
+    let l = length-over (a .lengths) s (f .0) in
+    let m : length t ≡ length (over (a .lengths) s) = ap length (a .written) in
     omega (arith, a .count)

@@ -47,10 +47,10 @@ toldJob (Read (Index l) n) = record { number = 0; place = 0; count = 2; limits =
 toldJob (Refused r) = record { number = toldRefusal r .number; place = toldRefusal r .place; count = 0; limits = noLimits; pages = noPages; n = 0 }
 
 -- ---- "A refused read leaves the lengths strip unchanged"
-pub refused-unchanged : (o : Reading) (s : List ℕ) (r : Refusal) (t : List ℕ) → Promise (outcome o s) (Refused r) t → t ≡ s
+pub refused-unchanged : (o : Reading) (s : List ℕ) {r : Job} {t : List ℕ} (q : Refusal) → Promise (outcome o s) r t → r ≡ Refused q → t ≡ s
 unfolding outcome
-refused-unchanged (refuse q) s r t p = p .left
-refused-unchanged (accept asked ws) s r t p =
+refused-unchanged (refuse q′) s q p e = p .left
+refused-unchanged (accept asked ws) s q p e =
     let z : _≡_ {A = ℕ} 0 1 = cc (p .answered) in
     absurd (omega arith)
 
@@ -61,9 +61,9 @@ pub record Accepted (o : Reading) (s : List ℕ) (asked : Asked) (n : ℕ) (t : 
   pub count : n ≡ length lengths
   pub written : t ≡ over lengths s
 
-pub accepted-writes : (o : Reading) (s : List ℕ) (asked : Asked) (n : ℕ) (t : List ℕ) → Promise (outcome o s) (Read asked n) t → Accepted o s asked n t
+pub accepted-writes : (o : Reading) (s : List ℕ) {r : Job} {t : List ℕ} {asked : Asked} {n : ℕ} → Promise (outcome o s) r t → r ≡ Read asked n → Accepted o s asked n t
 unfolding outcome
-accepted-writes (refuse q) s asked n t p =
+accepted-writes (refuse q) s p e =
     let z : _≡_ {A = ℕ} 0 1 = cc (p .answered) in
     absurd (omega arith)
-accepted-writes (accept a ws) s asked n t p = record { lengths = ws; is = cc (p .answered); count = cc (p .answered); written = p .left }
+accepted-writes (accept a ws) s p e = record { lengths = ws; is = cc (p .answered); count = cc (p .answered); written = p .left }
