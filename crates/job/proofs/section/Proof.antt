@@ -1,0 +1,67 @@
+-- `job::section` meets its contract: after k turns the first k numbers of the part stand at the front of the strip.
+-- Assumes nothing.
+use Prim.Native.Nat.{_-_}
+use native.Mathlib.Omega.{arith}
+use borrow.Author.Needs.{needs}
+use borrow.Author.Tests.{lt-leb}
+use Rattle.job.proofs.Numbers.{Written, written-none, written-more, written-all}
+use Rattle.job.proofs.section.Statement.{statement}
+use Rattle.job.proofs.section.Tie as tie
+
+abbrev Inv-loop : tie.InvT-loop
+Inv-loop part n out₀ complete k₀ out k = Written part n k out₀ out
+
+abbrev μ-loop : tie.MeasureT-loop
+μ-loop part n out₀ complete k₀ out k = n - k
+
+returns : tie.Need-returns Inv-loop μ-loop
+returns c = record { count = omega arith; strip = simp (lt-leb _ _ (c .if1 .taken)) }
+
+loop-holds : tie.Need-loop-holds Inv-loop μ-loop
+loop-holds c = written-none _ _ _ (c .if1 .left)
+
+mul-number : tie.Need-mul-number Inv-loop μ-loop
+mul-number c = omega (arith, c .before .before .before .before .before .good)
+
+number-requires : tie.Need-number-requires Inv-loop μ-loop
+number-requires c κs = search needs
+
+mul-out : tie.Need-mul-out Inv-loop μ-loop
+mul-out c = omega (arith, c .before .before .before .before .before .before .good)
+
+slice-write-out : tie.Need-slice-write-out Inv-loop μ-loop
+slice-write-out c = omega (arith, c .before .before .before .before .before .before .pre)
+
+add-k : tie.Need-add-k Inv-loop μ-loop
+add-k c = search needs
+
+loop-less : tie.Need-loop-less Inv-loop μ-loop
+loop-less c = search needs
+
+loop-again : tie.Need-loop-again Inv-loop μ-loop
+loop-again c =
+    written-more (c .number .result) (c .before .before .loop .inv) (c .before .loop-test .taken) (c .before .before .before .before .before .before .pre) (c .number .ensures)
+
+same-length : tie.Need-same-length Inv-loop μ-loop
+same-length c = c .before .loop .inv .same
+
+returns-2 : tie.Need-returns-2 Inv-loop μ-loop
+returns-2 c = written-all (c .before .loop .inv) (c .loop-test .left)
+
+pub section-spec : {M : Type 1} → statement M
+section-spec =
+    tie.close
+    (tie.spec
+    Inv-loop
+    μ-loop
+    returns
+    loop-holds
+    mul-number
+    number-requires
+    mul-out
+    slice-write-out
+    add-k
+    loop-less
+    loop-again
+    same-length
+    returns-2)

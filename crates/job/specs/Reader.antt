@@ -1,0 +1,91 @@
+-- 01, "Job file and listing": what a job is read as, from its bytes and the lengths strip alone. Assumes nothing.
+use Prim.Native.Nat.{ℕ, zero, suc, _+_, _*_, _^_}
+use mathlib.Core.Bool.{true, false}
+use mathlib.Core.List.{List, [], _∷_}
+use lib.Dec.{ltb, eqb}
+use lib.ListN.{length, getD, drop}
+use Rattle.laws.specs.Number.{if}
+use Rattle.laws.specs.Strip.{over}
+use Rattle.paper.specs.declared.Refusal.{Refusal}
+use Rattle.paper.specs.declared.Refusal.the-variants.{Many, Room, Job as Malformed}
+use Rattle.paper.specs.Allowed.{mostWords}
+use Rattle.job.specs.declared.Asked.{Asked}
+use Rattle.job.specs.declared.Asked.the-variants.{Paragraph, Index}
+use Rattle.job.specs.declared.Job.{Job}
+use Rattle.job.specs.declared.Job.the-variants.{Read, Refused}
+
+-- what a read comes to: a refusal, or what is asked for with the lengths
+pub data Reading : Type 0 where
+  refuse : Refusal → Reading
+  accept : Asked → List ℕ → Reading
+
+-- ---- numbers
+-- "Numbers are 32-bit, low byte first." This is the one whose first byte is byte k of a part of the job.
+abbrev pub number : List ℕ → ℕ → ℕ
+number part k = getD part k 0 + 2 ^ 8 * getD part (k + 1) 0 + 2 ^ 16 * getD part (k + 2) 0 + 2 ^ 24 * getD part (k + 3) 0
+
+-- n numbers from the front of a part that begins at the byte `at`, and what is made of them: "Read in file order: an incomplete
+-- number is JOB at its first byte"
+unfoldable pub numbers : ℕ → List ℕ → ℕ → (List ℕ → Reading) → Reading
+numbers at part zero made = made []
+numbers at part (suc n) made =
+    elim (ltb (length part) 4) [
+      | true ↦ refuse (Malformed at)
+      | false ↦ numbers (at + 4) (drop 4 part) n (λ xs. made (number part 0 ∷ xs))
+    ]
+
+-- ---- sections
+-- "Each section is read from the part of the job after its count." Here it begins at the byte `at`.
+unfoldable pub section : List ℕ → ℕ → ℕ → (List ℕ → Reading) → Reading
+section job at n made = numbers at (drop at job) n made
+
+-- the count at the byte `at`
+unfoldable pub counted : List ℕ → ℕ → (ℕ → Reading) → Reading
+counted job at made = section job at 1 (λ xs. made (getD xs 0 0))
+
+-- "bytes left over are JOB at the first of them"
+unfoldable pub toEnd : List ℕ → ℕ → Reading → Reading
+toEnd job at made = if (ltb at (length job)) (refuse (Malformed at)) made
+
+-- n lengths from the byte `at` on: "n > 4,096 is MANY; a lengths strip shorter than n is ROOM 1"
+unfoldable pub lengthsFrom : List ℕ → ℕ → Asked → ℕ → ℕ → Reading
+lengthsFrom job room asked at n =
+    if (ltb mostWords n) (refuse Many)
+    (if (ltb room n) (refuse (Room 1))
+    (section job at n (λ ws. toEnd job (at + 4 * n) (accept asked ws))))
+
+-- the lengths, whose count stands at the byte `at`
+unfoldable pub lengthsAfter : List ℕ → ℕ → ℕ → Asked → Reading
+lengthsAfter job room at asked = counted job at (lengthsFrom job room asked (at + 4))
+
+-- "limits (count 4: lmin, lopt, lmax, A; or count 2: lmin, lmax, meaning an index)"
+unfoldable pub four : List ℕ → Asked
+four l = Paragraph (record { lmin = getD l 0 0; lopt = getD l 1 0; lmax = getD l 2 0; a = getD l 3 0 })
+
+unfoldable pub two : List ℕ → Asked
+two l = Index (record { lmin = getD l 0 0; lmax = getD l 1 0 })
+
+-- "Sections stand in a fixed order, each after its count: limits [..], then lengths." "a first count that is neither 4 nor 2 is
+-- JOB at 0"
+unfoldable pub limitsFrom : List ℕ → ℕ → ℕ → Reading
+limitsFrom job room count =
+    if (eqb count 4) (section job 4 4 (λ l. lengthsAfter job room 20 (four l)))
+    (if (eqb count 2) (section job 4 2 (λ l. lengthsAfter job room 12 (two l)))
+    (refuse (Malformed 0)))
+
+-- the whole job, for a lengths strip that has room for so many
+unfoldable pub reading : List ℕ → ℕ → Reading
+reading job room = counted job 0 (limitsFrom job room)
+
+-- ---- the outcome: the answer, and the lengths strip at exit
+pub record ReadOutcome : Type 0 where
+  pub answer : Job
+  pub lengths : List ℕ
+
+-- "A refused read leaves the lengths strip unchanged [..]. An accepted read writes the n lengths and no entry past them."
+unfoldable pub outcome : Reading → List ℕ → ReadOutcome
+outcome (refuse r) s = record { answer = Refused r; lengths = s }
+outcome (accept asked ws) s = record { answer = Read asked (length ws); lengths = over ws s }
+
+unfoldable pub readOutcome : List ℕ → List ℕ → ReadOutcome
+readOutcome job s = outcome (reading job (length s)) s

@@ -1,0 +1,155 @@
+// The reader of a job file: document 01, "Job file and listing".
+use paper::Limits;
+use paper::PageLimits;
+use paper::Refusal;
+ghost use mathlib.Core.Path.{_≡_};
+ghost use Prim.Native.Nat.{_+_, _≤_, _<_};
+ghost use lib.ListN.{length};
+ghost use Rattle.job.specs.Reader.{number, lengthsFrom, lengthsAfter, limitsFrom, outcome, readOutcome};
+ghost use Rattle.job.specs.Section.{SectionIs};
+ghost use Rattle.job.specs.Promise.{Promise};
+
+// What a job asks for, with its limits.
+pub enum Asked {
+    Paragraph(Limits),
+    Index(PageLimits),
+}
+
+// The answer of the reader: what is asked for and n, the lengths being in their strip; or a refusal.
+pub enum Job {
+    Read(Asked, usize),
+    Refused(Refusal),
+}
+
+// A byte as a 32-bit number.
+fn wide(b: u8) -> u32
+    ensures { λ r. ⌜ (r ≡ b) × (r < 256) ⌝ }
+{
+    b as u32
+}
+
+// The number whose first byte is byte at of the part.
+fn number(part: &[u8], at: usize) -> u32
+    requires { ⌜ at + 4 ≤ length (now part) ⌝ }
+    ensures { λ r. ⌜ r ≡ number (now (part .entry)) at ⌝ }
+{
+    wide(part[at])
+        + 256 * wide(part[at + 1])
+        + 65536 * wide(part[at + 2])
+        + 16777216 * wide(part[at + 3])
+}
+
+// The section reader. The part of the job after a count is to have n numbers: the answer is how many of them are complete, and
+// where all are, they are written to out.
+fn section(part: &[u8], n: usize, out: &mut [u32]) -> usize
+    requires { ⌜ n ≤ length (now out) ⌝ }
+    ensures { λ r. ⌜ SectionIs (now (part .entry)) n (now (out .entry)) r (now (out .exit)) ⌝ }
+{
+    let complete = part.len() / 4;
+    if complete < n {
+        return complete;
+    }
+    let mut k = 0;
+    while k < n {
+        out[k] = number(part, 4 * k);
+        k += 1;
+    }
+    n
+}
+
+// The n lengths from byte at on, and then the end of the job.
+fn lengths_from(job: &[u8], asked: Asked, at: usize, count: u32, lengths: &mut [u32]) -> Job
+    requires { ⌜ at ≤ length (now job) ⌝ }
+    ensures { λ r. ⌜ Promise
+        (outcome (lengthsFrom (now (job .entry)) (length (now (lengths .entry))) asked at count) (now (lengths .entry)))
+        r (now (lengths .exit)) ⌝ }
+{
+    if 4096 < count {
+        return Job::Refused(Refusal::Many);
+    }
+    let n = count as usize;
+    if lengths.len() < n {
+        return Job::Refused(Refusal::Room(1));
+    }
+    let part = &job[at..];
+    if 4 * n < part.len() {
+        return Job::Refused(Refusal::Job(at + 4 * n));
+    }
+    let complete = section(part, n, lengths);
+    if complete < n {
+        return Job::Refused(Refusal::Job(at + 4 * complete));
+    }
+    Job::Read(asked, n)
+}
+
+// The lengths, whose count stands at byte at.
+fn lengths_after(job: &[u8], at: usize, asked: Asked, lengths: &mut [u32]) -> Job
+    requires { ⌜ at ≤ length (now job) ⌝ }
+    ensures { λ r. ⌜ Promise
+        (outcome (lengthsAfter (now (job .entry)) (length (now (lengths .entry))) at asked) (now (lengths .entry)))
+        r (now (lengths .exit)) ⌝ }
+{
+    let mut count = [0u32; 1];
+    if section(&job[at..], 1, &mut count) < 1 {
+        return Job::Refused(Refusal::Job(at));
+    }
+    lengths_from(job, asked, at + 4, count[0], lengths)
+}
+
+// A paragraph's limits, from byte 4 on, and then its lengths.
+fn paragraph(job: &[u8], lengths: &mut [u32]) -> Job
+    requires { ⌜ 4 ≤ length (now job) ⌝ }
+    ensures { λ r. ⌜ Promise
+        (outcome (limitsFrom (now (job .entry)) (length (now (lengths .entry))) 4) (now (lengths .entry)))
+        r (now (lengths .exit)) ⌝ }
+{
+    let mut l = [0u32; 4];
+    let complete = section(&job[4..], 4, &mut l);
+    if complete < 4 {
+        return Job::Refused(Refusal::Job(4 + 4 * complete));
+    }
+    let limits = Limits {
+        lmin: l[0],
+        lopt: l[1],
+        lmax: l[2],
+        a: l[3],
+    };
+    lengths_after(job, 20, Asked::Paragraph(limits), lengths)
+}
+
+// An index's limits, from byte 4 on, and then its lengths.
+fn index(job: &[u8], lengths: &mut [u32]) -> Job
+    requires { ⌜ 4 ≤ length (now job) ⌝ }
+    ensures { λ r. ⌜ Promise
+        (outcome (limitsFrom (now (job .entry)) (length (now (lengths .entry))) 2) (now (lengths .entry)))
+        r (now (lengths .exit)) ⌝ }
+{
+    let mut l = [0u32; 2];
+    let complete = section(&job[4..], 2, &mut l);
+    if complete < 2 {
+        return Job::Refused(Refusal::Job(4 + 4 * complete));
+    }
+    let limits = PageLimits {
+        lmin: l[0],
+        lmax: l[1],
+    };
+    lengths_after(job, 12, Asked::Index(limits), lengths)
+}
+
+// The whole job. A refused read writes nothing.
+pub fn read(job: &[u8], lengths: &mut [u32]) -> Job
+    ensures { λ r. ⌜ Promise (readOutcome (now (job .entry)) (now (lengths .entry))) r (now (lengths .exit)) ⌝ }
+{
+    let mut count = [0u32; 1];
+    if section(job, 1, &mut count) < 1 {
+        return Job::Refused(Refusal::Job(0));
+    }
+    let c = count[0];
+    if c == 4 {
+        return paragraph(job, lengths);
+    }
+    if c == 2 {
+        return index(job, lengths);
+    }
+    Job::Refused(Refusal::Job(0))
+}
