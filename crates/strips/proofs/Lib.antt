@@ -1,1 +1,2 @@
+pub mod Following
 pub mod Writing

@@ -10,7 +10,8 @@ ghost use Rattle.laws.specs.Strip.{over};
 ghost use Rattle.paper.specs.Allowed.{lengthHolds};
 ghost use Rattle.paper.specs.Moves.{kindNumber, code};
 ghost use Rattle.paper.specs.Strips.{sums as sumsOf};
-ghost use Rattle.strips.specs.Asks.{SumsAsk, MoveAsk};
+ghost use Rattle.strips.specs.Asks.{SumsAsk, MoveAsk, FollowAsk, Followed};
+ghost use Rattle.strips.specs.Chain.{chain};
 
 // Entry k of sums becomes the total of the first k lengths, for k from 0 to n.
 pub fn fill_sums(lengths: &[u32], sums: &mut [u32])
@@ -61,4 +62,20 @@ pub fn clear(strip: &mut [u32], n: usize)
         strip[k] = 0;
         k += 1;
     }
+}
+
+// The starts that the nexts lead to from `first` on, up to n, go to the answer strip. Answers their number. The entry for start k stands
+// at k - offset.
+pub fn follow(next: &[u32], offset: usize, n: usize, first: usize, answer: &mut [u32]) -> usize
+    requires { ⌜ FollowAsk (now next) offset n first (now answer) ⌝ }
+    ensures { λ r. ⌜ Followed (chain (now (next .entry)) offset n first) (now (answer .entry)) (now (answer .exit)) r ⌝ }
+{
+    let mut at = first;
+    let mut found = 0;
+    while at <= n {
+        answer[found] = at as u32;
+        found += 1;
+        at = next[at - offset] as usize;
+    }
+    found
 }
