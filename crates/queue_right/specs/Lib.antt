@@ -7,4 +7,5 @@ pub mod Count
 pub mod Curves
 pub mod Sound
 pub mod Front
+pub mod Agree
 pub mod Inside
