@@ -38,7 +38,7 @@ module _ (l : Limits) (ws : List ℕ) (p : ℕ → ℕ) (lines aparts : ℕ → 
   u = textWith l p lines aparts bests
 
   -- ---- the tests
-  F-same : (j : ℕ) → Live l ws i j → F u i j ≡ F (textOf l ws) i j
+  pub F-same : (j : ℕ) → Live l ws i j → F u i j ≡ F (textOf l ws) i j
   unfolding F textOf
   F-same j v =
       rw (agrees .later j (v .above) (v .within), agrees .from-start j (omega (arith, v .above)) (v .within), agrees .formula (line ws i j) (v .low) (v .high))

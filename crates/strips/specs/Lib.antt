@@ -1,3 +1,4 @@
 pub mod Asks
 pub mod Chain
 pub mod Running
+pub mod Words

@@ -1,0 +1,56 @@
+-- What a start takes, and what the functions of this crate ask and leave. Assumes nothing.
+use Prim.Native.Nat.{ℕ, _+_, _-_, _*_, _^_, _≤_, _<_}
+use mathlib.Core.Path.{_≡_}
+use mathlib.Core.List.{List, [], _∷_, _++_}
+use lib.Dec.{leb}
+use lib.ListN.{length, set}
+use lib.Seq.{slice}
+use Rattle.laws.specs.Number.{if}
+use Rattle.paper.specs.declared.Limits.{Limits}
+use Rattle.paper.specs.Allowed.{limitsHold}
+use Rattle.paper.specs.Paragraph as Paragraph
+use Rattle.paper.specs.QueueRules.{Text, F, front, queueMoves}
+use Rattle.paper.specs.Strips.{entries, bestEntry}
+use Rattle.lines.specs.Held.{textIn}
+use Rattle.strips.specs.Running.{written}
+use Rattle.strips.specs.Words.{wordsOf, Holds}
+use Rattle.queue.specs.declared.Queue.{Queue}
+use Rattle.queue.specs.Asks.{Words, Queued}
+
+-- ---- "Then the start takes n+1 if Line(i, n+1) ≤ lopt; otherwise the front is the chooser; with an empty queue there is no setting."
+abbrev pub frontBest : Text → ℕ → List ℕ → ℕ
+frontBest t i [] = 2 ^ 64 - 1
+frontBest t i (j ∷ q) = F t i j
+
+-- the entries of start i, where e is the end
+unfoldable pub takenBest : Text → ℕ → ℕ → List ℕ → ℕ
+takenBest t e i q = if (leb (t .line i e) (t .limits .lopt)) 0 (frontBest t i q)
+
+unfoldable pub takenNext : Text → ℕ → ℕ → List ℕ → ℕ
+takenNext t e i q = if (leb (t .line i e) (t .limits .lopt)) e (front q)
+
+pub record SettleAsks (l : Limits) (i : ℕ) (S Q : List ℕ) (q : Queue) (B N : List ℕ) : Type 0 where
+  pub words : Words l S B
+  pub queued : Queued l S B i Q (q .front) (q .end) (q .candidate)
+  pub first : 1 ≤ i
+  pub early : i < length S
+  pub nexts : length N ≡ length S
+
+pub record Settles (t : Text) (e i : ℕ) (q B N B′ N′ : List ℕ) : Type 0 where
+  pub best : B′ ≡ set B (i - 1) (takenBest t e i q)
+  pub next : N′ ≡ set N (i - 1) (takenNext t e i q)
+
+-- ---- all starts, on strips that are exactly long enough
+pub record StartsAsk (l : Limits) (S B N Q m : List ℕ) : Type 0 where
+  pub holds : Holds (limitsHold l) S
+  pub best : length B ≡ length S
+  pub next : length N ≡ length S
+  pub queue : length Q + 1 ≡ length S
+  pub moves : 2 * length Q ≤ length m
+
+-- the bests, the chosen nexts and the moves of the text ws
+pub record Starts (l : Limits) (ws m₀ : List ℕ) (count : ℕ) (B N m : List ℕ) : Type 0 where
+  pub best : B ≡ entries (λ i. bestEntry (Paragraph.best l ws i)) 1 (length ws + 1)
+  pub next : N ≡ entries (Paragraph.chosenNext l ws) 1 (length ws) ++ (0 ∷ [])
+  pub moves : m ≡ written (queueMoves l ws) m₀
+  pub counted : count ≡ length (queueMoves l ws)

@@ -1,0 +1,45 @@
+// The paragraph, on input that nothing refuses. Workshop parts: they ask what their callers meet.
+use lines::NONE;
+use lines::line;
+use lines::through;
+use lines::wide;
+use paper::Limits;
+use queue::Queue;
+use queue::at_start;
+
+ghost use lib.ListN.{length};
+ghost use lib.Seq.{slice};
+ghost use Rattle.lines.specs.Held.{textIn};
+ghost use Rattle.strips.specs.Words.{wordsOf};
+ghost use Rattle.breaks.specs.Asks.{SettleAsks, Settles, StartsAsk, Starts};
+
+// Writes the best and the chosen next of start i: the end, the front, or none.
+fn settle(
+    l: Limits,
+    i: usize,
+    sums: &[u32],
+    queue: &[u32],
+    q: Queue,
+    best: &mut [u64],
+    next: &mut [u32],
+)
+    requires { ⌜ SettleAsks l i (now sums) (now queue) q (now best) (now next) ⌝ }
+    ensures { λ _. ⌜ Settles (textIn l (now (sums .entry)) (now (best .entry))) (length (now (sums .entry))) i (slice (q .front) (q .end) (now (queue .entry))) (now (best .entry)) (now (next .entry)) (now (best .exit)) (now (next .exit)) ⌝ }
+{
+    let end = sums.len();
+    if line(sums, i, end) <= l.lopt {
+        best[i - 1] = 0;
+        next[i - 1] = end as u32;
+        return;
+    }
+    let front = q.front;
+    if front < q.end {
+        let j = queue[front];
+        let cost = through(l, sums, best, i, wide(j));
+        best[i - 1] = cost;
+        next[i - 1] = j;
+        return;
+    }
+    best[i - 1] = NONE;
+    next[i - 1] = 0;
+}

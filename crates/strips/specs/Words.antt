@@ -1,0 +1,64 @@
+-- The text that a sums strip holds. Assumes nothing.
+use Prim.Native.Nat.{ℕ, suc, _+_, _-_, _≤_, _<_}
+use mathlib.Core.Path.{_≡_, refl, ap, sym, _∙_}
+use mathlib.Core.Bool.{Bool}
+use mathlib.Core.List.{List}
+use native.Mathlib.Omega.{arith}
+use lib.ListN.{length, getD}
+use lib.Seq.{ext-getD}
+use Rattle.paper.specs.Allowed.{Passed}
+use Rattle.paper.specs.Scale.{upTo, upTo-suc, upTo-le}
+use Rattle.paper.specs.Strips.{entries, sums}
+use Rattle.paper.specs.Entries.{length-entries, getD-entries}
+
+-- the lengths whose sums the strip holds: the differences of neighbours
+unfoldable pub wordsOf : List ℕ → List ℕ
+wordsOf S = entries (λ k. getD S (suc k) 0 - getD S k 0) 0 (length S - 1)
+
+-- the strip holds the sums of a text that refusals 1 to 5 pass
+pub record Holds (hold : Bool) (S : List ℕ) : Type 0 where
+  pub passed : Passed hold (wordsOf S)
+  pub is : S ≡ sums (wordsOf S)
+
+pub length-sums : (ws : List ℕ) → length (sums ws) ≡ length ws + 1
+unfolding sums
+length-sums ws = length-entries _ 0 (length ws + 1)
+
+pub getD-sums : (ws : List ℕ) (k : ℕ) → k ≤ length ws → getD (sums ws) k 0 ≡ upTo ws k
+unfolding sums upTo
+getD-sums ws k h =
+    let e : 0 + k ≡ k = omega arith in
+    getD-entries (upTo ws) 0 (length ws + 1) k 0 (omega arith) ∙ rw e
+
+pub words-of-sums : (ws : List ℕ) → wordsOf (sums ws) ≡ ws
+unfolding wordsOf
+words-of-sums ws =
+    ap (entries between 0) (omega (arith, length-sums ws))
+    ∙ ext-getD 0 (entries between 0 (length ws)) ws size (λ k h. at k (omega (arith, size)))
+  where
+    between : ℕ → ℕ
+    between k = getD (sums ws) (suc k) 0 - getD (sums ws) k 0
+
+    size : length (entries between 0 (length ws)) ≡ length ws
+    size = length-entries between 0 (length ws)
+
+    at : (k : ℕ) → k < length ws → getD (entries between 0 (length ws)) k 0 ≡ getD ws k 0
+    at k h =
+        let e : 0 + k ≡ k = omega arith in
+        getD-entries between 0 (length ws) k 0 h
+        ∙ rw e (omega (arith, getD-sums ws (suc k) h, getD-sums ws k (omega arith), upTo-suc ws k h))
+
+-- sums that were made of a text hold it
+pub holds-sums : (hold : Bool) (ws : List ℕ) → Passed hold ws → Holds hold (sums ws)
+holds-sums hold ws passed = record { passed = rw (words-of-sums ws) passed; is = ap sums (sym (words-of-sums ws)) }
+
+module _ (hold : Bool) (S : List ℕ) (h : Holds hold S) where
+  pub holds-length : length S ≡ length (wordsOf S) + 1
+  holds-length = ap length (h .is) ∙ length-sums (wordsOf S)
+
+  pub holds-entry : (k : ℕ) → k ≤ length (wordsOf S) → getD S k 0 ≡ upTo (wordsOf S) k
+  holds-entry k g = ap (λ (s : List ℕ). getD s k 0) (h .is) ∙ getD-sums (wordsOf S) k g
+
+  pub holds-rising : (a b : ℕ) → a ≤ b → b < length S → getD S a 0 ≤ getD S b 0
+  holds-rising a b ab bs =
+      omega (arith, holds-length, holds-entry a (omega (arith, holds-length)), holds-entry b (omega (arith, holds-length)), upTo-le (wordsOf S) a b ab)
