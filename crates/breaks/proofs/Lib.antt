@@ -1,1 +1,4 @@
 pub mod Taking
+pub mod Agreeing
+pub mod Starting
+pub mod Ends

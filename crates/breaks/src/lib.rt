@@ -6,7 +6,6 @@ use lines::wide;
 use paper::Limits;
 use queue::Queue;
 use queue::at_start;
-
 ghost use lib.ListN.{length};
 ghost use lib.Seq.{slice};
 ghost use Rattle.lines.specs.Held.{textIn};
@@ -42,4 +41,41 @@ fn settle(
     }
     best[i - 1] = NONE;
     next[i - 1] = 0;
+}
+
+// All starts, from n down to 1, on strips that are exactly long enough. Answers the number of moves.
+fn starts(
+    l: Limits,
+    sums: &[u32],
+    best: &mut [u64],
+    next: &mut [u32],
+    queue: &mut [u32],
+    moves: &mut [u32],
+) -> usize
+    requires { ⌜ StartsAsk l (now sums) (now best) (now next) (now queue) (now moves) ⌝ }
+    ensures { λ r. ⌜ Starts l (wordsOf (now (sums .entry))) (now (moves .entry)) r (now (best .exit)) (now (next .exit)) (now (moves .exit)) ⌝ }
+{
+    let n = queue.len();
+    best[n] = 0;
+    next[n] = 0;
+    let mut q = Queue {
+        front: 0,
+        end: 0,
+        candidate: n + 1,
+        moves: 0,
+    };
+    let mut i = n;
+    while 0 < i {
+        let count = q.moves;
+        let at = at_start(l, i, sums, best, queue, q, &mut moves[count..]);
+        settle(l, i, sums, queue, at, best, next);
+        q = Queue {
+            front: at.front,
+            end: at.end,
+            candidate: at.candidate,
+            moves: count + at.moves,
+        };
+        i -= 1;
+    }
+    q.moves
 }
