@@ -2,3 +2,4 @@ pub mod Taking
 pub mod Agreeing
 pub mod Starting
 pub mod Ends
+pub mod Setting

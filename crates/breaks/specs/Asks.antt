@@ -7,10 +7,11 @@ use lib.ListN.{length, set}
 use lib.Seq.{slice}
 use Rattle.laws.specs.Number.{if}
 use Rattle.paper.specs.declared.Limits.{Limits}
-use Rattle.paper.specs.Allowed.{limitsHold}
+use Rattle.paper.specs.declared.Answer.{Answer}
+use Rattle.paper.specs.Allowed.{limitsHold, Passed}
 use Rattle.paper.specs.Paragraph as Paragraph
 use Rattle.paper.specs.QueueRules.{Text, F, front, queueMoves}
-use Rattle.paper.specs.Strips.{entries, bestEntry}
+use Rattle.paper.specs.Strips.{entries, bestEntry, ParagraphStrips, ParagraphOutcome}
 use Rattle.lines.specs.Held.{textIn}
 use Rattle.strips.specs.Running.{written}
 use Rattle.strips.specs.Words.{wordsOf, Holds}
@@ -54,3 +55,18 @@ pub record Starts (l : Limits) (ws m₀ : List ℕ) (count : ℕ) (B N m : List 
   pub next : N ≡ entries (Paragraph.chosenNext l ws) 1 (length ws) ++ (0 ∷ [])
   pub moves : m ≡ written (queueMoves l ws) m₀
   pub counted : count ≡ length (queueMoves l ws)
+
+-- ---- the whole, on strips that may be longer
+pub record SetAsks (l : Limits) (ws : List ℕ) (s : ParagraphStrips) : Type 0 where
+  pub passed : Passed (limitsHold l) ws
+  pub sums : length ws + 1 ≤ length (s .sums)
+  pub best : length ws + 1 ≤ length (s .best)
+  pub next : length ws + 1 ≤ length (s .next)
+  pub queue : length ws ≤ length (s .queue)
+  pub moves : 2 * length ws ≤ length (s .moves)
+  pub breaks : length ws ≤ length (s .breaks)
+
+-- the answer and the strips are those of the outcome
+pub record Sets (o : ParagraphOutcome) (answer : Answer) (strips : ParagraphStrips) : Type 0 where
+  pub answered : answer ≡ o .answer
+  pub left : strips ≡ o .strips

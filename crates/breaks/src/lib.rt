@@ -3,14 +3,20 @@ use lines::NONE;
 use lines::line;
 use lines::through;
 use lines::wide;
+use paper::Answer;
 use paper::Limits;
 use queue::Queue;
 use queue::at_start;
+use strips::clear;
+use strips::fill_sums;
+use strips::follow;
 ghost use lib.ListN.{length};
 ghost use lib.Seq.{slice};
 ghost use Rattle.lines.specs.Held.{textIn};
 ghost use Rattle.strips.specs.Words.{wordsOf};
-ghost use Rattle.breaks.specs.Asks.{SettleAsks, Settles, StartsAsk, Starts};
+ghost use Rattle.breaks.specs.Asks.{SettleAsks, Settles, StartsAsk, Starts, SetAsks, Sets};
+ghost use Rattle.paper.specs.Paragraph.{best as bestOf};
+ghost use Rattle.paper.specs.Strips.{paragraphStrips, paragraphSet};
 
 // Writes the best and the chosen next of start i: the end, the front, or none.
 fn settle(
@@ -78,4 +84,41 @@ fn starts(
         i -= 1;
     }
     q.moves
+}
+
+// Sets a paragraph that refusals 1 to 5 pass.
+pub fn set(
+    l: Limits,
+    lengths: &[u32],
+    sums: &mut [u32],
+    best: &mut [u64],
+    next: &mut [u32],
+    queue: &mut [u32],
+    moves: &mut [u32],
+    breaks: &mut [u32],
+) -> Answer
+    requires { ⌜ SetAsks l (now lengths) (paragraphStrips (now sums) (now best) (now next) (now queue) (now moves) (now breaks)) ⌝ }
+    ensures { λ r. ⌜ Sets (paragraphSet l (now (lengths .entry)) (paragraphStrips (now (sums .entry)) (now (best .entry)) (now (next .entry)) (now (queue .entry)) (now (moves .entry)) (now (breaks .entry))) (bestOf l (now (lengths .entry)) 1)) r (paragraphStrips (now (sums .exit)) (now (best .exit)) (now (next .exit)) (now (queue .exit)) (now (moves .exit)) (now (breaks .exit))) ⌝ }
+{
+    let n = lengths.len();
+    fill_sums(lengths, sums);
+    let taken = starts(
+        l,
+        &sums[..n + 1],
+        &mut best[..n + 1],
+        &mut next[..n + 1],
+        &mut queue[..n],
+        moves,
+    );
+    clear(queue, n);
+    let total = best[0];
+    if total == NONE {
+        return Answer::None { moves: taken };
+    }
+    let lines = follow(next, 1, n, 1, breaks);
+    Answer::Set {
+        total,
+        lines,
+        moves: taken,
+    }
 }

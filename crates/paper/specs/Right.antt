@@ -14,7 +14,7 @@ use Rattle.laws.specs.Cost.{Cost, none, some, _≼_, Has, has-some}
 use Rattle.laws.specs.Search.{Tie, smallest, largest}
 use Rattle.laws.specs.Setting.{Problem, Monotone, Choice, Admissible, total, Best, through}
 use Rattle.laws.specs.Table as Table
-use Rattle.laws.specs.Chosen.{Next, next, next-is, Follows, follow, follow-follows, Cheapest, follows-cheapest, none-exactly}
+use Rattle.laws.specs.Chosen.{Next, next, next-is, next-none, Follows, follow, follow-follows, Cheapest, follows-cheapest, none-exactly}
 use Rattle.paper.specs.declared.Limits.{Limits}
 use Rattle.paper.specs.declared.PageLimits.{PageLimits}
 use Rattle.paper.specs.Paragraph as Paragraph
@@ -71,6 +71,14 @@ module _ (l : Limits) (ws : List ℕ) where
           Next (paragraph l ws) (if b largest smallest) i (if b (end ws) (next (paragraph l ws) smallest i))
       go true e = free i wide lt (leb-true (line ws i (end ws)) (l .lopt) e)
       go false e = next-is (paragraph l ws) smallest i lt h
+
+  pub chosen-none : l .lopt ≤ l .lmax → (i : ℕ) → i < end ws → Paragraph.best l ws i ≡ none → Paragraph.chosenNext l ws i ≡ 0
+  unfolding Paragraph.best Paragraph.chosenNext paragraph
+  chosen-none wide i lt e = go (leb (line ws i (end ws)) (l .lopt)) refl
+    where
+      go : (b : Bool) → leb (line ws i (end ws)) (l .lopt) ≡ b → if b (end ws) (next (paragraph l ws) smallest i) ≡ 0
+      go true h = absurd (subst Has e (free i wide lt (leb-true (line ws i (end ws)) (l .lopt) h) .has))
+      go false h = next-none (paragraph l ws) smallest i lt e
 
   -- Demand 2: the breaks follow the chosen nexts, are admissible, have the total that is returned, and none cost less.
   pub paragraph-right : l .lopt ≤ l .lmax → 1 ≤ length ws → (v : ℕ) → Paragraph.best l ws 1 ≡ some v →

@@ -55,6 +55,9 @@ pub record ParagraphStrips : Type 0 where
   pub moves : List ℕ
   pub breaks : List ℕ
 
+abbrev pub paragraphStrips : List ℕ → List ℕ → List ℕ → List ℕ → List ℕ → List ℕ → ParagraphStrips
+paragraphStrips sums best next queue moves breaks = record { sums = sums; best = best; next = next; queue = queue; moves = moves; breaks = breaks }
+
 abbrev pub paragraphHas : ParagraphStrips → List ℕ
 paragraphHas s = length (s .sums) ∷ length (s .best) ∷ length (s .next) ∷ length (s .queue) ∷ length (s .moves) ∷ length (s .breaks) ∷ []
 
@@ -104,6 +107,10 @@ pub record IndexStrips : Type 0 where
   pub right : List ℕ
   pub moves : List ℕ
   pub boundaries : List ℕ
+
+abbrev pub indexStrips : List ℕ → List ℕ → List ℕ → List ℕ → List ℕ → List ℕ → List ℕ → IndexStrips
+indexStrips sums best next left right moves boundaries =
+    record { sums = sums; best = best; next = next; left = left; right = right; moves = moves; boundaries = boundaries }
 
 abbrev pub indexHas : IndexStrips → List ℕ
 indexHas s =
