@@ -1,0 +1,5 @@
+// The breaker and paging crate: what callers use. No function here asks anything of its caller.
+mod paragraph;
+
+pub use paragraph::penalty_alone;
+pub use paragraph::set_paragraph;
