@@ -1,0 +1,22 @@
+-- `rows::numbered` meets its contract. Assumes nothing.
+use mathlib.Core.Path.{_∙_}
+use Rattle.rows.specs.Puts.{puts-length}
+use Rattle.rows.proofs.Turns.{first-fits, ended-fits, row-put}
+use borrow.Author.Needs.{needs}
+use Rattle.rows.proofs.numbered.Statement.{statement}
+use Rattle.rows.proofs.numbered.Tie as tie
+
+number-requires : tie.Need-number-requires
+number-requires c κs = first-fits _ _ _ (c .before .before .before .pre)
+
+end-requires : tie.Need-end-requires
+end-requires c κs = ended-fits _ _ _ (c .before .before .before .number .ensures) (c .before .before .before .before .before .before .before .pre)
+
+same-length : tie.Need-same-length
+same-length c = puts-length (c .before .before .end .ensures) ∙ puts-length (c .before .before .before .before .before .before .number .ensures)
+
+returns : tie.Need-returns
+returns c = row-put _ _ _ (c .before .before .before .before .before .before .number .ensures) (c .before .before .end .ensures)
+
+pub numbered-spec : {M : Type 1} → statement M
+numbered-spec = tie.close (tie.spec number-requires end-requires same-length returns)
