@@ -1,0 +1,4 @@
+-- The listing of a job: what it is, what is promised of it, and worked listings.
+pub mod Listing
+pub mod Promise
+pub mod Worked

@@ -1,0 +1,5 @@
+// The listing of a job.
+pub enum Listed {
+    Written(usize),
+    Short(usize),
+}
