@@ -2,3 +2,4 @@
 pub mod Listing
 pub mod Promise
 pub mod Worked
+pub mod Asks

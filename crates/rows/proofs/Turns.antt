@@ -7,6 +7,7 @@ use lib.ListN.{length, getD, drop, length-append}
 use lib.Seq.{set-out}
 use Rattle.rows.specs.Rows.{space, feed, digit, digits, ended, row}
 use Rattle.rows.specs.Digits.{digits-one, digits-more}
+use Rattle.rows.specs.Size.{row-size}
 use Rattle.rows.specs.Puts.{Fits, Puts, puts-then, Going, going-more, going-end, going-fits, going-fits-next, Along, along-next, along-more, along-end}
 
 pub put-past : (s : List ℕ) (at byte : ℕ) → length s ≤ at → Puts (byte ∷ []) at s (at + 1) s
@@ -88,16 +89,12 @@ module _ (xs : List ℕ) (k at : ℕ) (s : List ℕ) (next : ℕ) (t : List ℕ)
 
 -- ---- a row
 module _ (first xs : List ℕ) (at : ℕ) where
-  row-length : length (row first xs) ≡ length first + length (ended xs)
-  unfolding row
-  row-length = length-append first (ended xs)
-
   pub first-fits : Fits at (row first xs) → Fits at first
-  first-fits f = omega (arith, row-length)
+  first-fits f = omega (arith, row-size first xs)
 
   module _ {s t : List ℕ} {next : ℕ} (p : Puts first at s next t) where
     pub ended-fits : Fits at (row first xs) → Fits next (ended xs)
-    ended-fits f = omega (arith, row-length, p .place)
+    ended-fits f = omega (arith, row-size first xs, p .place)
 
     pub row-put : {end : ℕ} {u : List ℕ} → Puts (ended xs) next t end u → Puts (row first xs) at s end u
     unfolding row

@@ -2,3 +2,4 @@
 pub mod Rows
 pub mod Digits
 pub mod Puts
+pub mod Size

@@ -1,0 +1,2 @@
+// The rows that stand first.
+use rows::named;

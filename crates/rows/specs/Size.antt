@@ -1,0 +1,26 @@
+-- How many bytes a row has. Assumes nothing.
+use Prim.Native.Nat.{ℕ, _+_}
+use mathlib.Core.Path.{_≡_, refl}
+use mathlib.Core.List.{List, [], _∷_}
+use native.Mathlib.Omega.{arith}
+use lib.ListN.{length, length-append}
+use Rattle.rows.specs.Rows.{digits, ended, row}
+
+pub ended-none : length (ended []) ≡ 1
+unfolding ended
+ended-none = refl
+
+pub ended-one : (x : ℕ) (xs : List ℕ) → length (ended (x ∷ xs)) ≡ 1 + length (digits x) + length (ended xs)
+unfolding ended
+ended-one x xs = omega (arith, length-append (digits x) (ended xs))
+
+pub row-size : (first xs : List ℕ) → length (row first xs) ≡ length first + length (ended xs)
+unfolding row
+row-size first xs = length-append first (ended xs)
+
+-- a row of one number, or two, after what stands first
+pub row-one : (first : List ℕ) (x : ℕ) → length (row first (x ∷ [])) ≡ length first + length (digits x) + 2
+row-one first x = omega (arith, row-size first (x ∷ []), ended-one x [], ended-none)
+
+pub row-two : (first : List ℕ) (x y : ℕ) → length (row first (x ∷ y ∷ [])) ≡ length first + length (digits x) + length (digits y) + 3
+row-two first x y = omega (arith, row-size first (x ∷ y ∷ []), ended-one x (y ∷ []), ended-one y [], ended-none)
