@@ -1,6 +1,5 @@
 -- 01, "Job file and listing": the listing of a job, as bytes, from the job's bytes alone. Assumes nothing.
 use Prim.Native.Nat.{ℕ}
-use Prim.Native.String.{String}
 use mathlib.Core.List.{List, [], _∷_, _++_}
 use lib.ListN.{length, getD}
 use Rattle.laws.specs.Cost.{Cost, none, some}
@@ -30,8 +29,8 @@ unfoldable pub refusal : Refusal → List ℕ
 refusal r = refused (toldRefusal r .number) (toldRefusal r .place)
 
 -- ---- "First n, the total, the count of lines; then for each line [a row]; then the count of moves."
-unfoldable pub heading : String → ℕ → String → ℕ → String → ℕ → List ℕ
-heading kind n cost total parts count = row (ascii kind) (n ∷ []) ++ (row (ascii cost) (total ∷ []) ++ row (ascii parts) (count ∷ []))
+unfoldable pub headed : List ℕ → ℕ → List ℕ → ℕ → List ℕ → ℕ → List ℕ
+headed kind n cost total parts count = row kind (n ∷ []) ++ (row cost (total ∷ []) ++ row parts (count ∷ []))
 
 unfoldable pub around : List ℕ → List ℕ → ℕ → List ℕ
 around head rows moves = head ++ (rows ++ row (ascii "moves") (moves ∷ []))
@@ -47,7 +46,7 @@ lineRows l ws [] = []
 lineRows l ws (i ∷ js) = lineRow l ws i (getD js 0 (end ws)) ++ lineRows l ws js
 
 unfoldable pub paragraphRows : Limits → List ℕ → List ℕ → ℕ → ℕ → List ℕ
-paragraphRows l ws starts total moves = around (heading "paragraph" (length ws) "penalty" total "lines" (length starts)) (lineRows l ws starts) moves
+paragraphRows l ws starts total moves = around (headed (ascii "paragraph") (length ws) (ascii "penalty") total (ascii "lines") (length starts)) (lineRows l ws starts) moves
 
 -- "for P4 it is `refused 6 0`"
 unfoldable pub paragraphSet : Limits → List ℕ → Cost → List ℕ
@@ -71,7 +70,7 @@ boundaryRows ws [] = []
 boundaryRows ws (b ∷ bs) = boundaryRow ws b ++ boundaryRows ws bs
 
 unfoldable pub indexRows : List ℕ → List ℕ → ℕ → ℕ → List ℕ
-indexRows ws bounds total moves = around (heading "index" (length ws) "keys" total "boundaries" (length bounds)) (boundaryRows ws bounds) moves
+indexRows ws bounds total moves = around (headed (ascii "index") (length ws) (ascii "keys") total (ascii "boundaries") (length bounds)) (boundaryRows ws bounds) moves
 
 unfoldable pub indexSet : PageLimits → List ℕ → Cost → List ℕ
 indexSet l ws none = refused 6 0

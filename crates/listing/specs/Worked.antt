@@ -18,7 +18,7 @@ use Rattle.paper.specs.PointerRules.{pagesOf, steps, jumps, links, pointed, lin
 use Rattle.job.specs.Reader.{number, numbers, section, counted, toEnd, lengthsFrom, lengthsAfter, four, two, limitsFrom, reading}
 use Rattle.rows.specs.Rows.{ascii, digitsIn, digits, ended, row}
 use Rattle.listing.specs.Listing as Listing
-use Rattle.listing.specs.Listing.{refused, refusal, heading, around, lineRow, lineRows, paragraphRows, paragraphListing, boundaryRow, boundaryRows, indexRows, indexListing, listed, listingOf}
+use Rattle.listing.specs.Listing.{refused, refusal, headed, around, lineRow, lineRows, paragraphRows, paragraphListing, boundaryRow, boundaryRows, indexRows, indexListing, listed, listingOf}
 
 -- numbers below 256 as a job has them
 abbrev bytes : List ℕ → List ℕ
@@ -28,12 +28,12 @@ bytes (x ∷ xs) = x ∷ 0 ∷ 0 ∷ 0 ∷ bytes xs
 -- "For the numbers 4 1 6 6 1 4 3 2 2 5 it prints:"
 pub listing-P1 : listingOf (bytes (4 ∷ 1 ∷ 6 ∷ 6 ∷ 1 ∷ 4 ∷ 3 ∷ 2 ∷ 2 ∷ 5 ∷ []))
     ≡ ascii "paragraph 4\npenalty 13\nlines 3\n1 3 9\n2 4 4\n4 5 0\nmoves 7\n"
-unfolding listingOf listed paragraphListing Listing.paragraphChecked Listing.paragraphSet paragraphRows lineRows lineRow around heading row ended digits digitsIn reading limitsFrom four lengthsAfter lengthsFrom toEnd counted section numbers checked firstFailing firstShort limitsHold lengthHolds sum line admissible penalty charge paragraph sqd Paragraph.best Paragraph.chosenNext Paragraph.breaks Table.best next textOf F edge chord dropLong popWorse popBridged add consider candidates dropWorse settled QueueRules.atStart QueueRules.afterStarts queueMoves
+unfolding listingOf listed paragraphListing Listing.paragraphChecked Listing.paragraphSet paragraphRows lineRows lineRow around headed row ended digits digitsIn reading limitsFrom four lengthsAfter lengthsFrom toEnd counted section numbers checked firstFailing firstShort limitsHold lengthHolds sum line admissible penalty charge paragraph sqd Paragraph.best Paragraph.chosenNext Paragraph.breaks Table.best next textOf F edge chord dropLong popWorse popBridged add consider candidates dropWorse settled QueueRules.atStart QueueRules.afterStarts queueMoves
 listing-P1 = refl
 
 -- "For an index, with 2 2 7 4 3 4 2 5:"
 pub listing-G1 : listingOf (bytes (2 ∷ 2 ∷ 7 ∷ 4 ∷ 3 ∷ 4 ∷ 2 ∷ 5 ∷ [])) ≡ ascii "index 4\nkeys 2\nboundaries 1\n3 2\nmoves 3\n"
-unfolding listingOf listed indexListing Listing.indexChecked Listing.indexSet indexRows boundaryRows boundaryRow around heading row ended digits digitsIn reading limitsFrom two lengthsAfter lengthsFrom toEnd counted section numbers checked firstFailing firstShort pageLimitsHold lengthHolds sum gap page item index Index.best Index.chosenNext Index.boundaries Table.best next pagesOf steps jumps links pointed linked PointerRules.atStart PointerRules.afterStarts pointerMoves
+unfolding listingOf listed indexListing Listing.indexChecked Listing.indexSet indexRows boundaryRows boundaryRow around headed row ended digits digitsIn reading limitsFrom two lengthsAfter lengthsFrom toEnd counted section numbers checked firstFailing firstShort pageLimitsHold lengthHolds sum gap page item index Index.best Index.chosenNext Index.boundaries Table.best next pagesOf steps jumps links pointed linked PointerRules.atStart PointerRules.afterStarts pointerMoves
 listing-G1 = refl
 
 -- "for P4 it is `refused 6 0`"

@@ -11,8 +11,8 @@ use lib.Seq.{sets, length-sets, sets-eq, drop-cons}
 use Rattle.laws.specs.Strip.{over, append-nil}
 
 -- the place after the bytes is a number
-abbrev pub Fits : ℕ → List ℕ → Type 0
-Fits at bytes = at + length bytes < 2 ^ 64
+pub record Fits (at : ℕ) (bytes : List ℕ) : Type 0 where
+  pub fits : at + length bytes < 2 ^ 64
 
 -- the bytes stand from the place `at` on, as far as the buffer goes, and `next` is the place after them
 pub record Puts (bytes : List ℕ) (at : ℕ) (s : List ℕ) (next : ℕ) (t : List ℕ) : Type 0 where
@@ -35,6 +35,25 @@ puts-none s at = record { place = omega arith; written = refl }
 
 pub puts-length : {xs s t : List ℕ} {at next : ℕ} → Puts xs at s next t → length t ≡ length s
 puts-length {xs = xs} {s = s} {at = at} p = ap length (p .written) ∙ length-sets s at xs
+
+-- ---- three runs of bytes, one after the other
+module _ (xs ys zs : List ℕ) (at : ℕ) (f : Fits at (xs ++ (ys ++ zs))) where
+  three-size : length (xs ++ (ys ++ zs)) ≡ length xs + (length ys + length zs)
+  three-size = simp length-append
+
+  pub three-first : Fits at xs
+  three-first = omega (arith, three-size)
+
+  module _ {s t : List ℕ} {next : ℕ} (p : Puts xs at s next t) where
+    pub three-second : Fits next ys
+    three-second = omega (arith, three-size, p .place)
+
+    module _ {u : List ℕ} {after : ℕ} (q : Puts ys next t after u) where
+      pub three-third : Fits after zs
+      three-third = omega (arith, three-size, p .place, q .place)
+
+      pub three-put : {end : ℕ} {v : List ℕ} → Puts zs after u end v → Puts (xs ++ (ys ++ zs)) at s end v
+      three-put r = puts-then p (puts-then q r)
 
 -- ---- of the whole, some bytes are put, and others are still to come
 pub record Going (whole left : List ℕ) (at : ℕ) (s : List ℕ) (next : ℕ) (t : List ℕ) : Type 0 where
