@@ -1,9 +1,43 @@
 -- What the functions of this crate ask and tell. Assumes nothing.
-use Prim.Native.Nat.{ℕ}
+use Prim.Native.Nat.{ℕ, _+_, _≤_, _<_}
 use mathlib.Core.Path.{_≡_}
+use mathlib.Core.List.{List}
+use lib.ListN.{length, getD}
+use Rattle.paper.specs.declared.Limits.{Limits}
+use Rattle.paper.specs.Allowed.{limitsHold, Passed}
+use Rattle.paper.specs.Paragraph.{end}
+use Rattle.paper.specs.Strips.{sums}
+use Rattle.rows.specs.Puts.{Fits}
 use Rattle.listing.specs.declared.refusal.Reason.{Reason}
+use Rattle.listing.specs.Listing.{lineRow, lineRows}
 
 -- a refusal's number and place
 pub record Tells (number place : ℕ) (r : Reason) : Type 0 where
   pub is-number : r .number ≡ number
   pub is-place : r .place ≡ place
+
+-- ---- the paragraph
+-- a text that refusals 1 to 4 pass, with its sums
+pub record Text (l : Limits) (ws S : List ℕ) : Type 0 where
+  pub passed : Passed (limitsHold l) ws
+  pub sums : S ≡ sums ws
+
+-- from start i up to j
+pub record Line (ws : List ℕ) (i j : ℕ) : Type 0 where
+  pub first : 1 ≤ i
+  pub order : i < j
+  pub within : j ≤ end ws
+
+pub record LineAsks (l : Limits) (ws S : List ℕ) (i j at : ℕ) : Type 0 where
+  pub text : Text l ws S
+  pub line : Line ws i j
+  pub room : Fits at (lineRow l ws i j)
+
+-- each start goes up to the next, the last one to the end
+pub record Starts (ws starts : List ℕ) : Type 0 where
+  pub lines : (k : ℕ) → k < length starts → Line ws (getD starts k 0) (getD starts (k + 1) (end ws))
+
+pub record LinesAsk (l : Limits) (ws S js : List ℕ) (at : ℕ) : Type 0 where
+  pub text : Text l ws S
+  pub starts : Starts ws js
+  pub room : Fits at (lineRows l ws js)
