@@ -137,7 +137,7 @@ def traced_jobs():
         job_of(PageLimits(7, 7), [3, 2]), job_of(Limits(1, 6, 6, 1), [3, 0]), job_of(PageLimits(2, 7), [3, 2, 4096]),
         job_of(Limits(9, 9, 10, 1), [8] * 12), job_of(PageLimits(9, 10), [8] * 12),
     ]
-    return marked_jobs() + chord_jobs() + refused + random_jobs(r, 45, 12)
+    return marked_jobs() + chord_jobs() + refused + random_jobs(r, 72, 12)
 
 
 # ---- the files --------------------------------------------------------------------------------------------------------

@@ -570,8 +570,9 @@ def random_limits(r, widest):
 
 
 def random_page_limits(r, widest):
-    lmax = r.randint(1, 5 * widest + 2)
-    return PageLimits(r.choice([0, lmax - 1, r.randint(0, lmax - 1)]), lmax)
+    """Page limits near the lengths; short pages with a low lmin make the pointer jump."""
+    lmax = r.choice([r.randint(1, 5 * widest + 2), r.randint(widest // 2 + 1, 2 * widest)])
+    return PageLimits(r.choice([0, lmax - 1, r.randint(0, lmax - 1), r.randint(0, lmax // 3)]), lmax)
 
 
 def random_paragraph(r, most):
