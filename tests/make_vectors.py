@@ -45,6 +45,12 @@ def chord_jobs():
     return [job_of(limits, lengths) for _, limits, lengths, _, _ in oracle.CHORD_ALONE]
 
 
+def bridged_jobs(r, count):
+    """Rears bridged while two or three stand: which rear goes shows in the moves, seldom in their number."""
+    picked = [oracle.random_bridge_case(r, 12, 2 + k % 2) for k in range(count)]
+    return [job_of(*case) for case in oracle.BRIDGED_OF_TWO + picked]
+
+
 def paragraph_edges():
     """Each bound of the paragraph's numbers from both sides, then the order of the refusals."""
     good = Limits(1, 2, 3, 1)
@@ -130,14 +136,14 @@ def long_jobs():
 
 
 def traced_jobs():
-    """Every marked row and every second-inequality list, some refusals, and some dozens at random, n at most 12."""
+    """Every marked row, every second-inequality list, bridged rears, some refusals, some dozens at random; n at most 12."""
     r = random.Random(SEED + 2)
     refused = [
         job_of(Limits(1, 6, 6, 1), []), job_of(PageLimits(2, 7), []), job_of(Limits(1, 6, 6, 16), [3, 2]),
         job_of(PageLimits(7, 7), [3, 2]), job_of(Limits(1, 6, 6, 1), [3, 0]), job_of(PageLimits(2, 7), [3, 2, 4096]),
         job_of(Limits(9, 9, 10, 1), [8] * 12), job_of(PageLimits(9, 10), [8] * 12),
     ]
-    return marked_jobs() + chord_jobs() + refused + random_jobs(r, 72, 12)
+    return marked_jobs() + chord_jobs() + bridged_jobs(r, 12) + refused + random_jobs(r, 72, 12)
 
 
 # ---- the files --------------------------------------------------------------------------------------------------------

@@ -193,6 +193,7 @@ class QueueRules:
         self.sums = running_sums(lengths)
         self.chord_alone = chord_alone    # 01's first error: bridging by the second inequality alone
         self.queue, self.moves = [], []
+        self.bridges = []    # how many stood at each Pop of a bridged rear, to choose cases by
         self.candidate = self.n + 1
         self.best, self.next = {self.n + 1: 0}, {self.n + 1: 0}
 
@@ -221,6 +222,7 @@ class QueueRules:
         while self.queue and self.through(i, candidate) <= self.through(i, self.queue[-1]):
             self.move(POP, self.queue.pop())
         while len(self.queue) >= 2 and self.bridged(candidate, self.queue[-1], self.queue[-2]):
+            self.bridges.append(len(self.queue))
             self.move(POP, self.queue.pop())
         self.queue.append(candidate)
         self.move(ADD, candidate)
@@ -552,6 +554,13 @@ CHORD_ALONE = [
     ("total 0", Limits(1, 4, 4, 4), [1, 1, 1, 1, 2, 1, 1, 1, 2, 1, 2, 1], 0, 0),
 ]
 
+# Lists where a rear is bridged while just two stand; a rule that waits for a third takes other moves here.
+BRIDGED_OF_TWO = [
+    (Limits(2, 6, 6, 11), [3, 1, 1, 3, 3]),
+    (Limits(1, 66, 66, 2), [26, 18, 12, 12, 27, 39]),
+    (Limits(7, 13, 22, 14), [1, 10, 12, 7, 3, 2, 6, 8]),
+]
+
 
 # ---- chosen at random -------------------------------------------------------------------------------------------------
 
@@ -597,6 +606,21 @@ def random_chord_case(r, most):
         limits = Limits(r.randint(1, 2), r.choice([lmax, lmax, lmax - 1]), lmax, r.randint(1, 15))
         lengths = [r.randint(1, r.choice([2, 3])) for _ in range(r.randint(5, max(5, most)))]
         if chord_alone_differs(limits, lengths):
+            return limits, lengths
+
+
+def bridges(limits, lengths):
+    """How many stood in the queue at each Pop of a bridged rear."""
+    rules = QueueRules(limits, lengths)
+    rules.run()
+    return rules.bridges
+
+
+def random_bridge_case(r, most, standing):
+    """A paragraph where a bridged rear is popped while `standing` stand."""
+    while True:
+        limits, lengths = random_paragraph(r, most)
+        if standing in bridges(limits, lengths):
             return limits, lengths
 
 
@@ -648,6 +672,11 @@ def test_chord_alone():
         assert chord_alone_differs(limits, lengths), name
         assert QueueRules(limits, lengths, chord_alone=True).run().best[0] == wrong, name
         assert paragraph_by_table(limits, lengths).best[0] == least, name
+
+
+def test_bridged_of_two():
+    for limits, lengths in BRIDGED_OF_TWO:
+        assert 2 in bridges(limits, lengths), (limits, lengths)
 
 
 def test_listings():
@@ -730,7 +759,7 @@ def test_longer(seed, count):
 
 
 def selftest(seed):
-    for test in (test_marked, test_chord_alone, test_listings, test_reader, test_edges, test_penalty, test_room):
+    for test in (test_marked, test_chord_alone, test_bridged_of_two, test_listings, test_reader, test_edges, test_penalty, test_room):
         test()
     count, longer = 20_000, 2_000
     nones = test_random(seed, count)
