@@ -18,9 +18,8 @@ fn main() {
         panic!("{}: {error}; build it by `rt staticlib capi`, or name another archive in HATHURMO_LIB", archive.display())
     });
     let name = path.file_name().and_then(|name| name.to_str()).unwrap_or_default();
-    let Some(name) = name.strip_prefix("lib").and_then(|name| name.strip_suffix(".a")) else {
-        panic!("{}: an archive is named lib..a", path.display());
-    };
+    let name = name.strip_prefix("lib").and_then(|name| name.strip_suffix(".a"));
+    let name = name.unwrap_or_else(|| panic!("{}: an archive is named lib..a", path.display()));
     let directory = path.parent().expect("a file stands in a directory");
     println!("cargo:rustc-link-search=native={}", directory.display());
     println!("cargo:rustc-link-lib=static={name}");
