@@ -1,10 +1,10 @@
 /* Hathurmo: paragraph breaking at least penalty and paging at least key total, in linear time, over memory that the caller lends.
  *
  * The library is target/staticlib/libcapi.a (`rt staticlib capi`). It allocates nothing, keeps nothing between calls and takes any
- * number of calls at once, as long as no two lend the same memory. Within one call no two strips may overlap.
+ * number of calls at once, as long as no two lend the same memory. Within one call no strip may overlap another, nor the input.
  *
  * A strip is a pointer with its count of entries. Every strip may be longer than asked for; entries past the part used never
- * change. Inputs never change. A pointer may be null only where its count is 0.
+ * change. Inputs never change. No pointer may be null; one whose count is 0 is not followed.
  *
  * What the numbers mean is in document 01; words, items and places count from 1.
  */
