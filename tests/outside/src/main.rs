@@ -237,8 +237,10 @@ fn work(next: &AtomicUsize, tallies: &Mutex<Vec<Tally>>) {
         if part >= KINDS.len() * PARTS {
             return;
         }
-        match run_part(part / PARTS, part % PARTS) {
-            Ok(tally) => tallies.lock().expect("no thread failed")[part / PARTS].join(&tally),
+        // A part of each kind in turn, so that a failure of any kind shows early.
+        let kind = part % KINDS.len();
+        match run_part(kind, part / KINDS.len()) {
+            Ok(tally) => tallies.lock().expect("no thread failed")[kind].join(&tally),
             Err(what) => {
                 eprintln!("{what}");
                 std::process::exit(1);
