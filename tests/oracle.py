@@ -1,5 +1,5 @@
 #!/usr/bin/env python3
-"""Document 01 in plain Python, written from the paper alone and never from the engine.
+"""Document 01 in plain Python, written from the paper and never from the engine.
 
 Three renderings of the same answers, so that a slip in one shows against the others:
   by definition  every setting (or boundary sequence) is listed and the least is taken; for short lists only
