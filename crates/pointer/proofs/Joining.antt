@@ -1,7 +1,7 @@
 -- One turn of the linking, in the values that the code has at hand, and what it leaves. Assumes nothing.
 use Prim.Native.Nat.{ℕ, zero, suc, _+_, _-_, _≤_, _<_}
 use mathlib.Core.Path.{_≡_, refl, ap, sym, _∙_}
-use mathlib.Core.Bool.{true, false}
+use mathlib.Core.Bool.{false}
 use mathlib.Core.List.{List, [], _++_}
 use native.Mathlib.Omega.{arith}
 use lib.ListN.{length, getD, set, length-set}
@@ -10,7 +10,7 @@ use Rattle.laws.specs.Strip.{over-nil, append-nil}
 use Rattle.paper.specs.declared.PageLimits.{PageLimits}
 use Rattle.paper.specs.declared.Kind.the-variants.{Link}
 use Rattle.paper.specs.Index as Index
-use Rattle.paper.specs.Moves.{Taken, code, move, moved, still}
+use Rattle.paper.specs.Moves.{Taken, code, move, moved}
 use Rattle.paper.specs.PointerRules.{pagesOf, entryAt, Linked, links, linked}
 use Rattle.pointer_right.specs.Numbers.{best-larger, best-not-larger}
 use Rattle.pointer_right.specs.Turns.{links-early, links-enough, links-more, links-stop}

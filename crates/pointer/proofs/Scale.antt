@@ -7,14 +7,11 @@ use lib.ListN.{length, getD}
 use Rattle.paper.specs.Scale.{upTo, upTo-le, gap-is}
 use Rattle.paper.specs.Index.{gap}
 use Rattle.paper.specs.Strips.{sums}
-use Rattle.pointer.specs.Held.{length-sums, getD-sums}
+use Rattle.pointer.specs.Held.{sums-size, getD-sums}
 
 module _ (S ws : List ℕ) (is : S ≡ sums ws) where
-  pub sums-size : length S ≡ length ws + 1
-  sums-size = ap length is ∙ length-sums ws
-
   pub sum-at : (k : ℕ) → k < length S → getD S k 0 ≡ upTo ws k
-  sum-at k h = ap (λ (s : List ℕ). getD s k 0) is ∙ getD-sums ws k (omega (arith, sums-size))
+  sum-at k h = ap (λ (s : List ℕ). getD s k 0) is ∙ getD-sums ws k (omega (arith, sums-size S ws is))
 
   module _ (a b : ℕ) (order : a < b) (within : b ≤ length S) where
     pub gap-rises : getD S a 0 ≤ getD S (b - 1) 0

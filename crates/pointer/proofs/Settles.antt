@@ -1,11 +1,11 @@
 -- The choice of a start, read off the numbers of the strips. Assumes nothing but what each law states.
-use Prim.Native.Nat.{ℕ, zero, suc, _+_, _-_, _^_, _≤_, _<_}
+use Prim.Native.Nat.{ℕ, suc, _+_, _-_, _^_, _≤_, _<_}
 use mathlib.Core.Path.{_≡_, refl, ap, sym, _∙_}
-use mathlib.Core.Bool.{Bool, true, false, not, _&&_}
+use mathlib.Core.Bool.{Bool, true, false, not}
 use mathlib.Core.List.{List}
 use native.Mathlib.Omega.{arith}
 use borrow.Author.Tests.{le-leb, lt-leb, eq-eqb, ne-eqb}
-use lib.Dec.{leb, eqb}
+use lib.Dec.{eqb}
 use lib.ListN.{length, getD, set}
 use Rattle.laws.specs.Cost.{Cost, none, some, has?, before}
 use Rattle.laws.specs.Chosen.{next}
@@ -20,7 +20,8 @@ use Rattle.paper.specs.Strips.{sums, bestEntry}
 use Rattle.pointer_right.specs.Turns.{true-not-false}
 use Rattle.pointer_right.specs.Choice.{Choosing, chooser-is, chooser-near}
 use Rattle.pointer.specs.Asks.{Settled}
-use Rattle.pointer.proofs.Scale.{sum-at, sums-size}
+use Rattle.pointer.specs.Held.{sums-size}
+use Rattle.pointer.proofs.Scale.{sum-at}
 
 -- ---- "The best of start i counts w_i for i from 1 to n, and nothing for 0"
 pub own-first : (ws : List ℕ) (i : ℕ) → i ≡ 0 → 0 ≡ item ws i

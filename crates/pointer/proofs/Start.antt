@@ -1,19 +1,18 @@
 -- One start: the pointer, the choice, and the links in the part of the moves strip that is left. Assumes nothing.
-use Prim.Native.Nat.{ℕ, zero, suc, _+_, _-_, _≤_, _<_}
-use mathlib.Core.Path.{_≡_, refl, ap, sym, subst, _∙_}
+use Prim.Native.Nat.{ℕ, zero, suc, _+_, _-_, _≤_}
+use mathlib.Core.Path.{_≡_, subst, _∙_}
 use mathlib.Core.List.{List, []}
 use native.Mathlib.Omega.{arith}
 use borrow.Rule.Slice.PartMut.{putMid}
-use lib.ListN.{length, getD, take, drop, length-append}
+use lib.ListN.{length, take, drop, length-append}
 use Rattle.paper.specs.declared.PageLimits.{PageLimits}
 use Rattle.paper.specs.Moves.{Taken}
-use Rattle.paper.specs.PointerRules.{pagesOf, entryAt, links, Pointing, pointed, linked, atStart}
+use Rattle.paper.specs.PointerRules.{pagesOf, links, Pointing, pointed, linked, atStart}
 use Rattle.pointer_right.specs.Ready.{ready-falls, ready-rises, ready-pointed, Pointed}
 use Rattle.pointer_right.specs.Choice.{Choosing, ready-choosing}
 use Rattle.strips.specs.Running.{Ran, joined-first, joined-room, joined-ran}
-use Rattle.pointer.specs.Held.{wordsOf, Bests, bests-more}
+use Rattle.pointer.specs.Held.{wordsOf, Bests, bests-more, sums-size}
 use Rattle.pointer.specs.Asks.{pagesIn, JumpsAsk, LinksAsk, SettleAsk, StartAsk, Joins, Settled, Started}
-use Rattle.pointer.proofs.Scale.{sums-size}
 
 -- the links are all the moves of a start past 0
 linked-moves : (l : PageLimits) (ws : List ℕ) (i : ℕ) (left right : List ℕ) (r : ℕ) → 1 ≤ i →

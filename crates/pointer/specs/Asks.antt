@@ -1,13 +1,13 @@
 -- What the functions of the pointer rules ask of their callers, and what each leaves. The strips have an entry for each index: n + 1
 -- sums, and n + 2 entries in each other. Assumes nothing.
-use Prim.Native.Nat.{ℕ, suc, _+_, _^_, _≤_, _<_}
+use Prim.Native.Nat.{ℕ, suc, _+_, _≤_, _<_}
 use mathlib.Core.Path.{_≡_}
 use mathlib.Core.List.{List}
 use lib.ListN.{length, getD, set}
 use Rattle.paper.specs.declared.PageLimits.{PageLimits}
 use Rattle.paper.specs.Index as Index
 use Rattle.paper.specs.Moves.{Taken}
-use Rattle.paper.specs.PointerRules.{Pages, pagesOf, entryAt, Linked, links, Pointing, linked, atStart}
+use Rattle.paper.specs.PointerRules.{Pages, pagesOf, entryAt, links, Pointing, linked, atStart}
 use Rattle.paper.specs.Strips.{sums, bestEntry}
 use Rattle.pointer_right.specs.Ready.{Ready}
 use Rattle.pointer_right.specs.Choice.{Choosing}

@@ -7,14 +7,12 @@ use paper::Move;
 use paper::PageLimits;
 use strips::put;
 ghost use mathlib.Core.Path.{_≡_};
-ghost use mathlib.Core.Bool.{Bool};
-ghost use mathlib.Core.List.{List};
-ghost use Prim.Native.Nat.{ℕ, suc, _+_, _^_, _≤_, _<_};
+ghost use Prim.Native.Nat.{_+_, _≤_, _<_};
 ghost use lib.ListN.{length};
 ghost use Rattle.paper.specs.Index.{gap as isGap, item};
-ghost use Rattle.paper.specs.PointerRules.{steps as isSteps, jumps as isJumps, pointed, linked, atStart, chooser};
+ghost use Rattle.paper.specs.PointerRules.{steps as isSteps, jumps as isJumps, pointed, chooser};
 ghost use Rattle.strips.specs.Running.{Ran};
-ghost use Rattle.pointer.specs.Held.{wordsOf, Holds, Bests};
+ghost use Rattle.pointer.specs.Held.{wordsOf};
 ghost use Rattle.pointer.specs.Asks.{pagesIn, GapAsk, StepsAsk, JumpsAsk, LinksAsk, ChoiceAsk, SettleAsk, StartAsk, OwnAsk, Joined, Joins, Settled, Started};
 
 // The index that a rule came to, and the moves taken.

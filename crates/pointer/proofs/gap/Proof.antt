@@ -1,5 +1,4 @@
 -- `pointer::gap` meets its contract. Assumes nothing.
-use native.Mathlib.Omega.{arith}
 use Rattle.pointer.proofs.Scale.{gap-rises, gap-read}
 use borrow.Author.Needs.{needs}
 use Rattle.pointer.proofs.gap.Statement.{statement}

@@ -2,8 +2,8 @@
 use borrow.Author.Needs.{needs}
 use native.Mathlib.Omega.{arith}
 use Prim.Native.Nat.{_-_}
-use mathlib.Core.Path.{refl, _∙_}
-use lib.ListN.{length, length-set}
+use mathlib.Core.Path.{refl}
+use lib.ListN.{length}
 use Rattle.pointer.proofs.Joining.{Joining, joining-first, join-early, join-place, join-on, join-stop, joining-length}
 use Rattle.pointer.proofs.links.Statement.{statement}
 use Rattle.pointer.proofs.links.Tie as tie
