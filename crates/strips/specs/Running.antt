@@ -100,6 +100,10 @@ module _ {A : Type 0} (whole : Taken A) (m₀ : List ℕ) where
           stands = ap (λ (t : Taken A). t .stands) (r .so-far);
         }
 
+pub ran-length : {A : Type 0} (whole : Taken A) (m₀ m : List ℕ) (taken : ℕ) (a : A) → Ran whole m₀ m taken a → length (whole .moves) ≤ length m₀ →
+    length m ≡ length m₀
+ran-length whole m₀ m taken a r room = ap length (r .moves) ∙ length-over (map code (whole .moves)) m₀ (omega (arith, length-codes (whole .moves)))
+
 -- ---- a rule, and then the next, which was lent the part of the strip that was left
 pub joined-first : {A B : Type 0} (s : Taken A) (f : A → Taken B) (room : ℕ) → length (joined s f .moves) ≤ room → length (s .moves) ≤ room
 joined-first s f room h = omega (arith, length-append (s .moves) (f (s .stands) .moves))
