@@ -56,7 +56,7 @@ refuses-everything r exit p = let e : Refused r ≡ Set 13 3 7 = p .answered ∙
 pub same-breaks : (a b : Answer) (x y : ParagraphStrips) → x .breaks ≡ y .breaks → ParagraphPromise P1 a x → ¬ ParagraphPromise P2 b y
 same-breaks a b x y e p q =
     let f : _≡_ {A = List ℕ} (1 ∷ 2 ∷ 4 ∷ 7 ∷ 7 ∷ []) (1 ∷ 3 ∷ 5 ∷ 7 ∷ 7 ∷ []) =
-        sym (ap (λ (s : ParagraphStrips). s .breaks) (p .strips ∙ strips-P1)) ∙ e ∙ ap (λ (s : ParagraphStrips). s .breaks) (q .strips) ∙ breaks-P2 in
+    sym (ap (λ (s : ParagraphStrips). s .breaks) (p .strips ∙ strips-P1)) ∙ e ∙ ap (λ (s : ParagraphStrips). s .breaks) (q .strips) ∙ breaks-P2 in
     let z : _≡_ {A = ℕ} 2 3 = ap (λ (l : List ℕ). getD l 1 0) f in
     omega arith
 
