@@ -19,10 +19,9 @@ use Rattle.paper.specs.Entries.{length-entries, getD-entries}
 use Rattle.pointer_right.specs.Numbers.{best-none}
 use Rattle.strips.specs.Asks.{FollowAsk, Followed}
 use Rattle.strips.specs.Chain.{nextIn, chain, Leads, leads-rises, leads-on, chain-later, chosen-leads}
-use Rattle.pages.specs.Asks.{PageAsk, Paged}
-use Rattle.pages.proofs.Parts.{Stands}
+use Rattle.pages.specs.Asks.{Filled, PageAsk, Paged}
 
-module _ (l : PageLimits) (ws : List ℕ) (s : IndexStrips) (taken : ℕ) (S B N L R m : List ℕ) (d : Stands l ws s taken S B N L R m) where
+module _ (l : PageLimits) (ws : List ℕ) (s : IndexStrips) (taken : ℕ) (S B N L R m : List ℕ) (d : Filled l ws (s .sums) (s .best) (s .next) (s .left) (s .right) (s .moves) taken S B N L R m) where
   abbrev exit : List ℕ → IndexStrips
   exit Z = record { sums = S; best = B; next = N; left = L; right = R; moves = m; boundaries = Z }
 
@@ -42,7 +41,7 @@ module _ (l : PageLimits) (ws : List ℕ) (s : IndexStrips) (taken : ℕ) (S B N
   pub page-none : PageAsk l ws s → getD B 0 0 ≡ 2 ^ 64 - 1 → Paged l ws s (None taken) (exit (s .boundaries))
   unfolding indexSet
   page-none a e =
-      let f : Index.best l ws 0 ≡ none = best-none l ws (a .passed) 0 (omega arith) (omega (arith, total-is)) in
+      let f : Index.best l ws 0 ≡ none = best-none l ws (a .fill .passed) 0 (omega arith) (omega (arith, total-is)) in
       rw (f, d .count, exit-written [] (s .boundaries) (sym (over-nil (s .boundaries))))
 
   -- ---- the boundaries
@@ -53,7 +52,7 @@ module _ (l : PageLimits) (ws : List ℕ) (s : IndexStrips) (taken : ℕ) (S B N
   es-size = omega (arith, length-append es (0 ∷ []), length-entries (Index.chosenNext l ws) 0 (length ws + 1))
 
   next-size : PageAsk l ws s → length ws + 2 ≤ length N
-  next-size a = omega (arith, a .next, ap length (d .next), length-over (es ++ (0 ∷ [])) (s .next) (omega (arith, a .next, es-size)))
+  next-size a = omega (arith, a .fill .next, ap length (d .next), length-over (es ++ (0 ∷ [])) (s .next) (omega (arith, a .fill .next, es-size)))
 
   next-is : (k : ℕ) → 0 ≤ k → k ≤ length ws → nextIn N 0 k ≡ Index.chosenNext l ws k
   next-is k h g =
@@ -93,7 +92,7 @@ module _ (l : PageLimits) (ws : List ℕ) (s : IndexStrips) (taken : ℕ) (S B N
       page-follows = record {
         leads = leads-first;
         held = omega (arith, next-size a);
-        few = a .passed .few;
+        few = a .fill .passed .few;
         room = omega (arith, a .boundaries, leads-rises N 0 (length ws) 0 leads (omega arith));
       }
 

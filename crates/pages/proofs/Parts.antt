@@ -9,11 +9,11 @@ use Rattle.laws.specs.Strip.{over}
 use Rattle.paper.specs.declared.PageLimits.{PageLimits}
 use Rattle.paper.specs.Index as Index
 use Rattle.paper.specs.PointerRules.{pointerMoves}
-use Rattle.paper.specs.Strips.{entries, sums, bestEntry, leftEntry, rightEntry, IndexStrips}
+use Rattle.paper.specs.Strips.{entries, sums, bestEntry, leftEntry, rightEntry}
 use Rattle.paper.specs.Entries.{length-entries}
 use Rattle.strips.specs.Running.{written}
 use Rattle.pointer.specs.Held.{wordsOf, words-of-sums, held-sums, length-sums}
-use Rattle.pages.specs.Asks.{StartsAsk, Started, PageAsk}
+use Rattle.pages.specs.Asks.{StartsAsk, Started, FillAsk, Filled}
 
 -- ---- the parts that are used
 -- the sums at the front of the strip
@@ -21,16 +21,16 @@ front : (ws s S : List ℕ) → S ≡ over (sums ws) s → take (length ws + 1) 
 unfolding over
 front ws s S e = ap (take (length ws + 1)) e ∙ take-at (sums ws) (drop (length (sums ws)) s) (length ws + 1) (length-sums ws)
 
-pub page-starts : (l : PageLimits) (ws : List ℕ) (s : IndexStrips) (S : List ℕ) → PageAsk l ws s → S ≡ over (sums ws) (s .sums) →
-    StartsAsk l (take (length ws + 1) S) (take (length ws + 2) (s .best)) (take (length ws + 2) (s .next)) (take (length ws + 2) (s .left)) (take (length ws + 2) (s .right)) (s .moves)
-page-starts l ws s S a e =
-    rw (front ws (s .sums) S e)
+pub fill-starts : (l : PageLimits) (ws S₀ B N L R m S : List ℕ) → FillAsk l ws S₀ B N L R m → S ≡ over (sums ws) S₀ →
+    StartsAsk l (take (length ws + 1) S) (take (length ws + 2) B) (take (length ws + 2) N) (take (length ws + 2) L) (take (length ws + 2) R) m
+fill-starts l ws S₀ B N L R m S a e =
+    rw (front ws S₀ S e)
     (record {
       held = held-sums l ws (a .passed);
-      best = omega (arith, length-take-le (length ws + 2) (s .best) (a .best), length-sums ws);
-      next = omega (arith, length-take-le (length ws + 2) (s .next) (a .next), length-sums ws);
-      left = omega (arith, length-take-le (length ws + 2) (s .left) (a .left), length-sums ws);
-      right = omega (arith, length-take-le (length ws + 2) (s .right) (a .right), length-sums ws);
+      best = omega (arith, length-take-le (length ws + 2) B (a .best), length-sums ws);
+      next = omega (arith, length-take-le (length ws + 2) N (a .next), length-sums ws);
+      left = omega (arith, length-take-le (length ws + 2) L (a .left), length-sums ws);
+      right = omega (arith, length-take-le (length ws + 2) R (a .right), length-sums ws);
       moves = omega (arith, a .moves, length-sums ws);
     })
 
@@ -39,30 +39,21 @@ back : (xs ys s : List ℕ) (k : ℕ) → ys ≡ xs → length xs ≡ k → ys +
 unfolding over
 back xs ys s k e f = rw (e, f)
 
--- ---- what stands after all starts
-pub record Stands (l : PageLimits) (ws : List ℕ) (s : IndexStrips) (taken : ℕ) (S B N L R m : List ℕ) : Type 0 where
-  pub sums : S ≡ over (sums ws) (s .sums)
-  pub best : B ≡ over (entries (λ i. bestEntry (Index.best l ws i)) 0 (length ws + 2)) (s .best)
-  pub next : N ≡ over (entries (Index.chosenNext l ws) 0 (length ws + 1) ++ (0 ∷ [])) (s .next)
-  pub left : L ≡ over (0 ∷ entries (leftEntry (Index.best l ws)) 1 (length ws + 1)) (s .left)
-  pub right : R ≡ over (0 ∷ entries (rightEntry (Index.best l ws) (length ws)) 1 (length ws) ++ (0 ∷ [])) (s .right)
-  pub moves : m ≡ written (pointerMoves l ws) (s .moves)
-  pub count : taken ≡ length (pointerMoves l ws)
-
-pub page-stands : (l : PageLimits) (ws : List ℕ) (s : IndexStrips) (taken : ℕ) (S B N L R m : List ℕ) → S ≡ over (sums ws) (s .sums) →
-    Started l (wordsOf (take (length ws + 1) S)) (s .moves) taken B N L R m →
-    Stands l ws s taken S (B ++ drop (length ws + 2) (s .best)) (N ++ drop (length ws + 2) (s .next)) (L ++ drop (length ws + 2) (s .left)) (R ++ drop (length ws + 2) (s .right)) m
-page-stands l ws s taken S B N L R m e d =
-    let f : wordsOf (take (length ws + 1) S) ≡ ws = ap wordsOf (front ws (s .sums) S e) ∙ words-of-sums ws in
+pub fill-done : (l : PageLimits) (ws S₀ B₀ N₀ L₀ R₀ m₀ : List ℕ) (taken : ℕ) (S B N L R m : List ℕ) → S ≡ over (sums ws) S₀ →
+    Started l (wordsOf (take (length ws + 1) S)) m₀ taken B N L R m →
+    Filled l ws S₀ B₀ N₀ L₀ R₀ m₀ taken S (B ++ drop (length ws + 2) B₀) (N ++ drop (length ws + 2) N₀) (L ++ drop (length ws + 2) L₀) (R ++ drop (length ws + 2) R₀) m
+fill-done l ws S₀ B₀ N₀ L₀ R₀ m₀ taken S B N L R m e d =
+    let f : wordsOf (take (length ws + 1) S) ≡ ws = ap wordsOf (front ws S₀ S e) ∙ words-of-sums ws in
     let d = rw f at d in
     record {
       sums = e;
-      best = back (entries (λ i. bestEntry (Index.best l ws i)) 0 (length ws + 2)) B (s .best) (length ws + 2) (d .best) (length-entries (λ i. bestEntry (Index.best l ws i)) 0 (length ws + 2));
-      next = back (entries (Index.chosenNext l ws) 0 (length ws + 1) ++ (0 ∷ [])) N (s .next) (length ws + 2) (d .next)
+      best = back (entries (λ i. bestEntry (Index.best l ws i)) 0 (length ws + 2)) B B₀ (length ws + 2) (d .best)
+          (length-entries (λ i. bestEntry (Index.best l ws i)) 0 (length ws + 2));
+      next = back (entries (Index.chosenNext l ws) 0 (length ws + 1) ++ (0 ∷ [])) N N₀ (length ws + 2) (d .next)
           (simp length-append (omega (arith, length-entries (Index.chosenNext l ws) 0 (length ws + 1))));
-      left = back (0 ∷ entries (leftEntry (Index.best l ws)) 1 (length ws + 1)) L (s .left) (length ws + 2) (d .left)
+      left = back (0 ∷ entries (leftEntry (Index.best l ws)) 1 (length ws + 1)) L L₀ (length ws + 2) (d .left)
           (omega (arith, length-entries (leftEntry (Index.best l ws)) 1 (length ws + 1)));
-      right = back (0 ∷ entries (rightEntry (Index.best l ws) (length ws)) 1 (length ws) ++ (0 ∷ [])) R (s .right) (length ws + 2) (d .right)
+      right = back (0 ∷ entries (rightEntry (Index.best l ws) (length ws)) 1 (length ws) ++ (0 ∷ [])) R R₀ (length ws + 2) (d .right)
           (omega (arith, length-append (entries (rightEntry (Index.best l ws) (length ws)) 1 (length ws)) (0 ∷ []), length-entries (rightEntry (Index.best l ws) (length ws)) 1 (length ws)));
       moves = d .moves;
       count = d .count;

@@ -3,12 +3,13 @@ use Prim.Native.Nat.{ℕ, _+_, _*_, _≤_}
 use mathlib.Core.Path.{_≡_}
 use mathlib.Core.List.{List, [], _∷_, _++_}
 use lib.ListN.{length}
+use Rattle.laws.specs.Strip.{over}
 use Rattle.paper.specs.declared.PageLimits.{PageLimits}
 use Rattle.paper.specs.declared.Answer.{Answer}
 use Rattle.paper.specs.Allowed.{pageLimitsHold, Passed}
 use Rattle.paper.specs.Index as Index
 use Rattle.paper.specs.PointerRules.{pointerMoves}
-use Rattle.paper.specs.Strips.{entries, bestEntry, leftEntry, rightEntry, IndexStrips, IndexOutcome, indexSet}
+use Rattle.paper.specs.Strips.{entries, sums, bestEntry, leftEntry, rightEntry, IndexStrips, IndexOutcome, indexSet}
 use Rattle.strips.specs.Running.{written}
 use Rattle.pointer.specs.Held.{Holds}
 
@@ -30,15 +31,29 @@ pub record Started (l : PageLimits) (ws m₀ : List ℕ) (taken : ℕ) (B N L R 
   pub moves : m ≡ written (pointerMoves l ws) m₀
   pub count : taken ≡ length (pointerMoves l ws)
 
+-- a list that refusals 1 to 5 pass, but for the room of the boundaries
+pub record FillAsk (l : PageLimits) (ws S B N L R m : List ℕ) : Type 0 where
+  pub passed : Passed (pageLimitsHold l) ws
+  pub sums : length ws + 1 ≤ length S
+  pub best : length ws + 2 ≤ length B
+  pub next : length ws + 2 ≤ length N
+  pub left : length ws + 2 ≤ length L
+  pub right : length ws + 2 ≤ length R
+  pub moves : 2 * length ws ≤ length m
+
+-- the same, the rest of each strip being as it was
+pub record Filled (l : PageLimits) (ws S₀ B₀ N₀ L₀ R₀ m₀ : List ℕ) (taken : ℕ) (S B N L R m : List ℕ) : Type 0 where
+  pub sums : S ≡ over (sums ws) S₀
+  pub best : B ≡ over (entries (λ i. bestEntry (Index.best l ws i)) 0 (length ws + 2)) B₀
+  pub next : N ≡ over (entries (Index.chosenNext l ws) 0 (length ws + 1) ++ (0 ∷ [])) N₀
+  pub left : L ≡ over (0 ∷ entries (leftEntry (Index.best l ws)) 1 (length ws + 1)) L₀
+  pub right : R ≡ over (0 ∷ entries (rightEntry (Index.best l ws) (length ws)) 1 (length ws) ++ (0 ∷ [])) R₀
+  pub moves : m ≡ written (pointerMoves l ws) m₀
+  pub count : taken ≡ length (pointerMoves l ws)
+
 -- a list that refusals 1 to 5 pass
 pub record PageAsk (l : PageLimits) (ws : List ℕ) (s : IndexStrips) : Type 0 where
-  pub passed : Passed (pageLimitsHold l) ws
-  pub sums : length ws + 1 ≤ length (s .sums)
-  pub best : length ws + 2 ≤ length (s .best)
-  pub next : length ws + 2 ≤ length (s .next)
-  pub left : length ws + 2 ≤ length (s .left)
-  pub right : length ws + 2 ≤ length (s .right)
-  pub moves : 2 * length ws ≤ length (s .moves)
+  pub fill : FillAsk l ws (s .sums) (s .best) (s .next) (s .left) (s .right) (s .moves)
   pub boundaries : length ws ≤ length (s .boundaries)
 
 -- the answer and every strip at exit are those of 01

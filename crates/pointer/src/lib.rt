@@ -170,9 +170,10 @@ fn own(sums: &[u32], i: usize) -> u64
     ensures { λ r. ⌜ r ≡ item (wordsOf (now (sums .entry))) i ⌝ }
 {
     if i == 0 {
-        return 0;
+        0
+    } else {
+        long(sums[i] - sums[i - 1])
     }
-    long(sums[i] - sums[i - 1])
 }
 
 // The best and the chosen next of start i, where its rules came to r: "else i has none".

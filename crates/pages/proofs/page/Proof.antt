@@ -1,63 +1,11 @@
 -- `pages::page` meets its contract. Assumes nothing.
-use native.Mathlib.Omega.{arith}
-use mathlib.Core.Path.{sym}
-use lib.Seq.{length-take-le}
-use Rattle.pages.proofs.Parts.{page-starts, page-stands}
 use Rattle.pages.proofs.Paging.{page-none, page-follows, page-some}
 use borrow.Author.Needs.{needs}
 use Rattle.pages.proofs.page.Statement.{statement}
 use Rattle.pages.proofs.page.Tie as tie
 
-fill-sums-requires : tie.Need-fill-sums-requires
-fill-sums-requires c κs = search needs
-
-add-starts : tie.Need-add-starts
-add-starts c = search needs
-
-slice-reshare-prefix-starts : tie.Need-slice-reshare-prefix-starts
-slice-reshare-prefix-starts c = search needs
-
-slice-aggregate-starts : tie.Need-slice-aggregate-starts
-slice-aggregate-starts c = sym (length-take-le _ _ (omega (arith, c .before .before .before .fill-sums .kept, c .before .before .before .before .before .before .before .before .before .before .before .before .before .pre .sums)))
-
-add-starts-2 : tie.Need-add-starts-2
-add-starts-2 c = search needs
-
-slice-relend-prefix-starts : tie.Need-slice-relend-prefix-starts
-slice-relend-prefix-starts c = search needs
-
-slice-aggregate-starts-2 : tie.Need-slice-aggregate-starts-2
-slice-aggregate-starts-2 c = sym (length-take-le _ _ (c .before .before .before .before .before .before .before .before .before .before .before .before .before .before .pre .best))
-
-add-starts-3 : tie.Need-add-starts-3
-add-starts-3 c = search needs
-
-slice-relend-prefix-starts-2 : tie.Need-slice-relend-prefix-starts-2
-slice-relend-prefix-starts-2 c = search needs
-
-slice-aggregate-starts-3 : tie.Need-slice-aggregate-starts-3
-slice-aggregate-starts-3 c = sym (length-take-le _ _ (c .before .before .before .before .before .before .before .before .before .before .before .before .before .before .before .pre .next))
-
-add-starts-4 : tie.Need-add-starts-4
-add-starts-4 c = search needs
-
-slice-relend-prefix-starts-3 : tie.Need-slice-relend-prefix-starts-3
-slice-relend-prefix-starts-3 c = search needs
-
-slice-aggregate-starts-4 : tie.Need-slice-aggregate-starts-4
-slice-aggregate-starts-4 c = sym (length-take-le _ _ (c .before .before .before .before .before .before .before .before .before .before .before .before .before .before .before .before .pre .left))
-
-add-starts-5 : tie.Need-add-starts-5
-add-starts-5 c = search needs
-
-slice-relend-prefix-starts-4 : tie.Need-slice-relend-prefix-starts-4
-slice-relend-prefix-starts-4 c = search needs
-
-slice-aggregate-starts-5 : tie.Need-slice-aggregate-starts-5
-slice-aggregate-starts-5 c = sym (length-take-le _ _ (c .before .before .before .before .before .before .before .before .before .before .before .before .before .before .before .before .before .pre .right))
-
-starts-requires : tie.Need-starts-requires
-starts-requires c κs = page-starts _ _ _ _ (c .before .before .before .before .before .before .before .before .before .before .before .before .before .before .before .before .before .before .pre) (c .before .before .before .before .before .before .before .before .fill-sums .ensures)
+fill-requires : tie.Need-fill-requires
+fill-requires c κs = search needs
 
 slice-read-total : tie.Need-slice-read-total
 slice-read-total c = search needs
@@ -81,7 +29,7 @@ same-length-6 : tie.Need-same-length-6
 same-length-6 c = search needs
 
 returns : tie.Need-returns
-returns c = page-none _ _ _ _ _ _ _ _ _ _ (page-stands _ _ _ _ _ _ _ _ _ _ (c .before .before .before .before .before .before .before .before .before .before .before .before .before .before .before .before .before .before .before .before .before .fill-sums .ensures) (c .before .before .before .before .before .before .before .before .before .before .before .before .starts .ensures)) (c .before .before .before .before .before .before .before .before .before .before .before .before .before .before .before .before .before .before .before .before .before .before .before .before .before .before .before .before .before .before .before .pre) (c .if1 .taken)
+returns c = page-none _ _ _ _ _ _ _ _ _ _ (c .before .before .before .before .before .before .before .before .before .before .before .before .before .before .fill .ensures) (c .before .before .before .before .before .before .before .before .before .before .before .before .before .before .before .before .before .before .before .before .before .before .before .before .before .before .before .before .before .pre) (c .if1 .taken)
 
 slice-reshared-read-wide : tie.Need-slice-reshared-read-wide
 slice-reshared-read-wide c = search needs
@@ -90,7 +38,7 @@ wide-requires : tie.Need-wide-requires
 wide-requires c κs = search needs
 
 follow-requires : tie.Need-follow-requires
-follow-requires c κs = page-follows _ _ _ _ _ _ _ _ _ _ (page-stands _ _ _ _ _ _ _ _ _ _ (c .before .before .before .before .before .before .before .before .before .before .before .before .before .before .before .before .before .before .before .before .before .before .before .before .fill-sums .ensures) (c .before .before .before .before .before .before .before .before .before .before .before .before .before .before .before .starts .ensures)) (c .before .before .before .before .before .before .before .before .before .before .before .before .before .before .before .before .before .before .before .before .before .before .before .before .before .before .before .before .before .before .before .before .before .before .pre) (c .before .before .before .if1 .left) _ (c .before .wide .ensures)
+follow-requires c κs = page-follows _ _ _ _ _ _ _ _ _ _ (c .before .before .before .before .before .before .before .before .before .before .before .before .before .before .before .before .before .fill .ensures) (c .before .before .before .before .before .before .before .before .before .before .before .before .before .before .before .before .before .before .before .before .before .before .before .before .before .before .before .before .before .before .before .before .pre) (c .before .before .before .if1 .left) _ (c .before .wide .ensures)
 
 same-length-7 : tie.Need-same-length-7
 same-length-7 c = search needs
@@ -114,29 +62,13 @@ same-length-13 : tie.Need-same-length-13
 same-length-13 c = search needs
 
 returns-2 : tie.Need-returns-2
-returns-2 c = page-some _ _ _ _ _ _ _ _ _ _ (page-stands _ _ _ _ _ _ _ _ _ _ (c .before .before .before .before .before .before .before .before .before .before .before .before .before .before .before .before .before .before .before .before .before .before .before .before .before .before .before .fill-sums .ensures) (c .before .before .before .before .before .before .before .before .before .before .before .before .before .before .before .before .before .before .starts .ensures)) (c .before .before .before .before .before .before .before .before .before .before .before .before .before .before .before .before .before .before .before .before .before .before .before .before .before .before .before .before .before .before .before .before .before .before .before .before .before .pre) (c .before .before .before .before .before .before .if1 .left) _ (c .before .before .before .before .wide .ensures) _ _ (c .before .before .follow .ensures)
+returns-2 c = page-some _ _ _ _ _ _ _ _ _ _ (c .before .before .before .before .before .before .before .before .before .before .before .before .before .before .before .before .before .before .before .before .fill .ensures) (c .before .before .before .before .before .before .before .before .before .before .before .before .before .before .before .before .before .before .before .before .before .before .before .before .before .before .before .before .before .before .before .before .before .before .before .pre) (c .before .before .before .before .before .before .if1 .left) _ (c .before .before .before .before .wide .ensures) _ _ (c .before .before .follow .ensures)
 
 pub page-spec : {M : Type 1} → statement M
 page-spec =
     tie.close
     (tie.spec
-    fill-sums-requires
-    add-starts
-    slice-reshare-prefix-starts
-    slice-aggregate-starts
-    add-starts-2
-    slice-relend-prefix-starts
-    slice-aggregate-starts-2
-    add-starts-3
-    slice-relend-prefix-starts-2
-    slice-aggregate-starts-3
-    add-starts-4
-    slice-relend-prefix-starts-3
-    slice-aggregate-starts-4
-    add-starts-5
-    slice-relend-prefix-starts-4
-    slice-aggregate-starts-5
-    starts-requires
+    fill-requires
     slice-read-total
     same-length
     same-length-2

@@ -4,9 +4,6 @@ use borrow.Author.Needs.{needs}
 use Rattle.pointer.proofs.own.Statement.{statement}
 use Rattle.pointer.proofs.own.Tie as tie
 
-returns : tie.Need-returns
-returns c = own-first _ _ (c .if1 .taken)
-
 mul-long : tie.Need-mul-long
 mul-long c = search needs
 
@@ -28,6 +25,9 @@ sub-long-2 c = own-order _ _ (c .before .before .before .before .pre .is) _ (c .
 long-requires : tie.Need-long-requires
 long-requires c κs = search needs
 
+returns : tie.Need-returns
+returns c = own-first _ _ (c .if1 .taken)
+
 returns-2 : tie.Need-returns-2
 returns-2 c = own-read _ _ (c .before .before .before .before .before .pre .is) _ (c .before .before .before .before .before .pre .low) (c .before .before .before .if1 .left) _ (c .long .ensures)
 
@@ -35,7 +35,6 @@ pub own-spec : {M : Type 1} → statement M
 own-spec =
     tie.close
     (tie.spec
-    returns
     mul-long
     shared-slice-read-long
     sub-long
@@ -43,4 +42,5 @@ own-spec =
     shared-slice-read-long-2
     sub-long-2
     long-requires
+    returns
     returns-2)
