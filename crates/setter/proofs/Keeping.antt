@@ -8,6 +8,7 @@ use borrow.Author.Tests.{lt-ltb, le-ltb, not-true, not-false}
 use lib.Dec.{T}
 use lib.ListN.{length}
 use Rattle.paper.specs.declared.Limits.{Limits}
+use Rattle.paper.specs.declared.PageLimits.{PageLimits}
 use Rattle.paper.specs.declared.Refusal.{Refusal}
 use Rattle.paper.specs.declared.Refusal.the-variants.{Limits as BadLimits, Length}
 use Rattle.paper.specs.declared.Checked.the-variants.{Accept, Refuse}
@@ -15,13 +16,14 @@ use Rattle.paper.specs.declared.Answer.{Answer}
 use Rattle.paper.specs.declared.Answer.the-variants.{Refused}
 use Rattle.paper.specs.declared.Penalty.{Penalty}
 use Rattle.paper.specs.declared.Penalty.the-variants.{Of, Refused as PenaltyRefused}
-use Rattle.paper.specs.Allowed.{Ranges, ranges, limitsHold}
+use Rattle.paper.specs.Allowed.{Ranges, ranges, limitsHold, pageLimitsHold}
 use Rattle.paper.specs.Paragraph.{best, penalty}
 use Rattle.paper.specs.Told.{told, toldPenalty, checked, penaltyAlone}
-use Rattle.paper.specs.Strips.{ParagraphStrips, ParagraphOutcome, paragraphHas, paragraphNeeds, paragraphChecked, paragraphSet, paragraphOutcome}
+use Rattle.paper.specs.Strips.{ParagraphStrips, paragraphHas, paragraphNeeds, paragraphChecked, paragraphSet, paragraphOutcome, IndexStrips, IndexOutcome, indexHas, indexNeeds, indexChecked, indexOutcome}
 use Rattle.rules.specs.Accepted.{accepted, room-here}
 use Rattle.breaks.specs.Asks.{SetAsks, Sets}
-use Rattle.setter.specs.Promise.{ParagraphPromise, PenaltyPromise}
+use Rattle.pages.specs.Asks.{PageAsk, Paged}
+use Rattle.setter.specs.Promise.{ParagraphPromise, IndexPromise, PenaltyPromise}
 
 -- ---- the paragraph: hold is whether the limits do, as the code found it
 module _ (l : Limits) (ws : List ℕ) (s : ParagraphStrips) (hold : Bool) (h : hold ≡ limitsHold l) where
@@ -44,6 +46,31 @@ module _ (l : Limits) (ws : List ℕ) (s : ParagraphStrips) (hold : Bool) (h : h
     pub paragraph-kept : (r : Answer) (t : ParagraphStrips) → Sets (paragraphSet l ws s (best l ws 1)) r t → ParagraphPromise (paragraphOutcome l ws s) r t
     unfolding paragraphOutcome paragraphChecked
     paragraph-kept r t k = rw (← h, ← e) (record { answered = k .answered; tells = ap told (k .answered); strips = k .left })
+
+-- ---- the index
+module _ (l : PageLimits) (ws : List ℕ) (s : IndexStrips) (hold : Bool) (h : hold ≡ pageLimitsHold l) where
+  pub index-refused : (r : Refusal) → Refuse r ≡ checked hold ws (indexHas s) (indexNeeds (length ws)) → IndexPromise (indexOutcome l ws s) (Refused r) s
+  unfolding indexOutcome indexChecked
+  index-refused r e = rw (← h, ← e) (record { answered = refl; tells = refl; strips = refl })
+
+  module _ (e : Accept ≡ checked hold ws (indexHas s) (indexNeeds (length ws))) where
+    pub index-passes : PageAsk l ws s
+    index-passes =
+        let a = accepted hold ws (indexHas s) (indexNeeds (length ws)) (sym e) in
+        let r1 = room-here _ _ _ _ 1 (omega arith) (a .room) in
+        let r2 = room-here _ _ _ _ 2 (omega arith) (r1 .1) in
+        let r3 = room-here _ _ _ _ 3 (omega arith) (r2 .1) in
+        let r4 = room-here _ _ _ _ 4 (omega arith) (r3 .1) in
+        let r5 = room-here _ _ _ _ 5 (omega arith) (r4 .1) in
+        let r6 = room-here _ _ _ _ 6 (omega arith) (r5 .1) in
+        let r7 = room-here _ _ _ _ 7 (omega arith) (r6 .1) in
+        record { passed = rw h at (a .passed); sums = r1 .0; best = r2 .0; next = r3 .0; left = r4 .0; right = r5 .0; moves = r6 .0; boundaries = r7 .0 }
+
+    pub index-kept : (r : Answer) (t : IndexStrips) → Paged l ws s r t → IndexPromise (indexOutcome l ws s) r t
+    unfolding indexOutcome indexChecked
+    index-kept r t k =
+        let a = ap (λ (o : IndexOutcome). o .answer) k in
+        rw (← h, ← e) (record { answered = a; tells = ap told a; strips = ap (λ (o : IndexOutcome). o .strips) k })
 
 -- ---- the penalty alone
 penalty-kept : (o answer : Penalty) → answer ≡ o → PenaltyPromise o answer

@@ -8,7 +8,7 @@ use mathlib.Core.List.{List, [], _∷_}
 use native.Mathlib.Omega.{arith}
 use borrow.Author.Tests.{le-leb, lt-leb}
 use lib.Dec.{leb}
-use lib.ListN.{length, getD}
+use lib.ListN.{getD}
 use Rattle.laws.specs.Number.{split, when-true, when-false}
 use Rattle.laws.specs.Cost.{Cost, none, some, Has, has-some, before-has}
 use Rattle.laws.specs.Search.{Tie}

@@ -85,6 +85,11 @@ module _ {A : Type 0} (whole : Taken A) (m₀ : List ℕ) where
     pub running-room : {rest : Taken A} → Running whole rest m₀ m taken → length (take (length m - taken) (drop taken m)) ≡ length m₀ - taken
     running-room r = rw (lent-is m taken) (length-drop taken m ∙ ap (λ (n : ℕ). n - taken) (running-length r))
 
+    -- a rule whose moves have room has room for each
+    pub running-place : {rest : Taken A} (mv : Move) → Running whole (moved mv rest) m₀ m taken → length (whole .moves) ≤ length m₀ → taken < length m₀
+    running-place {rest} mv r room =
+        omega (arith, r .count, ap (λ (t : Taken A). length (t .moves)) (r .so-far), length-append (r .done) (mv ∷ rest .moves))
+
     -- nothing is left to come
     pub running-done : (a : A) → Running whole (still a) m₀ m taken → Ran whole m₀ m taken a
     running-done a r =
@@ -94,6 +99,31 @@ module _ {A : Type 0} (whole : Taken A) (m₀ : List ℕ) where
           count = r .count ∙ ap length (sym e);
           stands = ap (λ (t : Taken A). t .stands) (r .so-far);
         }
+
+pub ran-length : {A : Type 0} (whole : Taken A) (m₀ m : List ℕ) (taken : ℕ) (a : A) → Ran whole m₀ m taken a → length (whole .moves) ≤ length m₀ →
+    length m ≡ length m₀
+ran-length whole m₀ m taken a r room = ap length (r .moves) ∙ length-over (map code (whole .moves)) m₀ (omega (arith, length-codes (whole .moves)))
+
+-- ---- a rule, and then the next, which was lent the part of the strip that was left
+pub joined-first : {A B : Type 0} (s : Taken A) (f : A → Taken B) (room : ℕ) → length (joined s f .moves) ≤ room → length (s .moves) ≤ room
+joined-first s f room h = omega (arith, length-append (s .moves) (f (s .stands) .moves))
+
+module _ {A B : Type 0} (s : Taken A) (f : A → Taken B) (m₀ m : List ℕ) (taken : ℕ) (a : A) (first : Ran s m₀ m taken a) where
+  pub joined-room : length (joined s f .moves) ≤ length m₀ → length m ≡ length m₀ →
+      (taken ≤ length m) × (length (f a .moves) ≤ length (take (length m - taken) (drop taken m)))
+  joined-room room kept =
+      rw (← first .stands, lent-is m taken, length-drop taken m)
+      (omega (arith, first .count, length-append (s .moves) (f (s .stands) .moves)))
+
+  pub joined-ran : (t : List ℕ) (more : ℕ) (b : B) → Ran (f a) (take (length m - taken) (drop taken m)) t more b →
+      Ran (joined s f) m₀ (putMid taken (length m - taken) m t) (taken + more) b
+  joined-ran t more b =
+      rw (← first .stands) (λ second. record {
+        moves = over-back (map code (s .moves)) (map code (f (s .stands) .moves)) m₀ m t taken (first .moves) (first .count ∙ sym (length-codes (s .moves))) (second .moves)
+            ∙ ap (λ (l : List ℕ). over l m₀) (sym (map-append (s .moves) (f (s .stands) .moves)));
+        count = simp length-append (omega (arith, first .count, second .count));
+        stands = second .stands;
+      })
 
 -- one rule after the other, and then a third
 pub joined-assoc : {A B C : Type 0} (r : Taken A) (f : A → Taken B) (g : B → Taken C) → joined (joined r f) g ≡ joined r (λ a. joined (f a) g)

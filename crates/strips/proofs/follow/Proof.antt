@@ -1,6 +1,5 @@
 -- `strips::follow` meets its contract. Assumes nothing.
 use native.Mathlib.Omega.{arith}
-use borrow.Author.Needs.{needs}
 use Prim.Native.Nat.{_+_, _-_}
 use Rattle.strips.specs.Chain.{leads-rises}
 use Rattle.strips.proofs.Following.{Following, following-first, following-room, following-more, following-done}

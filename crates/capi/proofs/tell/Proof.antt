@@ -1,0 +1,41 @@
+-- `capi::tell` meets its contract. Assumes nothing.
+use Rattle.paper.specs.Told.{told}
+use borrow.Author.Needs.{needs}
+use Rattle.capi.proofs.tell.Statement.{statement}
+use Rattle.capi.proofs.tell.Tie as tie
+
+enum-known-a : tie.Need-enum-known-a
+enum-known-a c = search needs
+
+enum-known-a-2 : tie.Need-enum-known-a-2
+enum-known-a-2 c = search needs
+
+enum-known-a-3 : tie.Need-enum-known-a-3
+enum-known-a-3 c = search needs
+
+tell-refusal-requires : tie.Need-tell-refusal-requires
+tell-refusal-requires c κs = search needs
+
+returns : tie.Need-returns
+unfolding told
+returns c = rw (c .before .a .given .1) (search needs)
+
+returns-2 : tie.Need-returns-2
+unfolding told
+returns-2 c = rw (c .before .a2 .given .1) (search needs)
+
+returns-3 : tie.Need-returns-3
+unfolding told
+returns-3 c = rw (c .before .before .a3 .given .1) (c .tell-refusal .ensures)
+
+pub tell-spec : {M : Type 1} → statement M
+tell-spec =
+    tie.close
+    (tie.spec
+    enum-known-a
+    enum-known-a-2
+    enum-known-a-3
+    tell-refusal-requires
+    returns
+    returns-2
+    returns-3)

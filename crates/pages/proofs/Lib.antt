@@ -1,0 +1,4 @@
+pub mod Nexts
+pub mod Going
+pub mod Parts
+pub mod Paging

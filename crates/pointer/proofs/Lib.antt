@@ -1,0 +1,6 @@
+pub mod Scale
+pub mod Lowers
+pub mod Points
+pub mod Joining
+pub mod Settles
+pub mod Start

@@ -1,0 +1,196 @@
+#!/usr/bin/env python3
+"""Writes the stored input and output of the programs jobs, longs and traces, from the oracle.
+
+    python3 tests/make_vectors.py            writes crates/{jobs,longs,traces}/{stdin,stdout}
+    python3 tests/make_vectors.py --check    writes nothing; exit status 1 where a stored file differs
+
+Input, the same for all three: records one after the other, each a size of 2 bytes, low byte first, and then a job of that many
+bytes. The input ends with its last record and has at most 60,000 bytes.
+
+Output of jobs and longs: the listings of the jobs one after the other, nothing between them.
+
+Output of traces: its jobs are all read without a refusal, n at most 12. For each job the strips are lent with 2 entries more than
+01 asks for, every entry 7 before the call (a u64 7 in best). After the call, for each strip in 01's order, one line with ALL its
+entries in decimal, and then what was told:
+    sums: 0 3 5 7 12 7 7
+    best: ..
+    told NUMBER PLACE TOTAL LINES MOVES
+Paragraph: sums best next queue moves breaks. Index: sums best next left right moves boundaries. "No setting" is printed as
+18446744073709551615. A strip that needs no entry (n = 0) still has its 2, so no line is empty.
+"""
+import pathlib
+import random
+import sys
+
+import oracle
+from oracle import Job, Limits, PageLimits, job_of, pack
+
+ROOT = pathlib.Path(__file__).resolve().parent.parent
+SEED = 19870
+MOST_BYTES = 60_000
+
+
+# ---- the jobs ---------------------------------------------------------------------------------------------------------
+
+def listed_jobs():
+    """01's two listings, as the numbers it prints them for."""
+    return [pack([4, 1, 6, 6, 1, 4, 3, 2, 2, 5]), pack([2, 2, 7, 4, 3, 4, 2, 5])]
+
+
+def marked_jobs():
+    return [job_of(limits, lengths) for _, limits, lengths, _, _ in oracle.MARKED]
+
+
+def chord_jobs():
+    return [job_of(limits, lengths) for _, limits, lengths, _, _ in oracle.CHORD_ALONE]
+
+
+def bridged_jobs(r, count):
+    """Rears bridged while two or three stand: which rear goes shows in the moves, seldom in their number."""
+    picked = [oracle.random_bridge_case(r, 12, 2 + k % 2) for k in range(count)]
+    return [job_of(*case) for case in oracle.BRIDGED_OF_TWO + picked]
+
+
+def paragraph_edges():
+    """Each bound of the paragraph's numbers from both sides, then the order of the refusals."""
+    good = Limits(1, 2, 3, 1)
+    limits = [
+        Limits(1, 2, 4095, 1), Limits(1, 2, 4096, 1), Limits(1, 2, 2**32 - 1, 1),
+        Limits(1, 2, 3, 0), Limits(1, 2, 3, 15), Limits(1, 2, 3, 16), Limits(1, 2, 3, 2**32 - 1),
+        Limits(3, 3, 3, 1), Limits(2, 3, 3, 1), Limits(4, 3, 3, 1), Limits(2, 1, 3, 1), Limits(1, 4, 3, 1),
+        Limits(0, 2, 3, 1), Limits(2**32 - 1, 2, 3, 1), Limits(1, 1, 2, 1), Limits(4094, 4095, 4095, 15),
+    ]
+    lengths = [
+        (Limits(1, 2, 4095, 1), [4095]), (Limits(1, 2, 4095, 1), [4096]), (good, [0]), (good, [2**32 - 1]),
+        (good, [1, 2, 0, 4096]), (good, [1, 2, 4096, 0]), (good, [1] * 30 + [0]), (good, [4, 1]), (good, [1, 4]),
+    ]
+    order = [(good, []), (Limits(0, 0, 0, 0), []), (Limits(0, 0, 0, 0), [0]), (Limits(6, 8, 9, 1), [5, 0])]
+    return [job_of(l, [1, 2]) for l in limits] + [job_of(*case) for case in lengths + order]
+
+
+def index_edges():
+    good = PageLimits(0, 3)
+    limits = [
+        PageLimits(0, 65535), PageLimits(0, 65536), PageLimits(0, 2**32 - 1), PageLimits(65534, 65535), PageLimits(3, 3),
+        PageLimits(2, 3), PageLimits(4, 3), PageLimits(0, 0), PageLimits(0, 1), PageLimits(2**32 - 1, 3),
+    ]
+    lengths = [
+        (PageLimits(0, 4095), [4095]), (PageLimits(0, 4095), [4096]), (PageLimits(0, 4094), [4095]), (good, [0]),
+        (good, [2**32 - 1]), (good, [1, 0, 4096]), (good, [1, 4096, 0]), (good, [4] * 30), (PageLimits(1, 3), [4] * 3),
+        (good, [3, 3, 3]), (PageLimits(61425, 65535), [4095] * 30),
+    ]
+    order = [(good, []), (PageLimits(1, 1), []), (PageLimits(1, 1), [0]), (PageLimits(2, 3), [8, 0])]
+    return [job_of(l, [1, 2]) for l in limits] + [job_of(*case) for case in lengths + order]
+
+
+def cut_jobs():
+    """A paragraph and an index cut at every byte, from none to all but the last."""
+    whole = [job_of(Limits(1, 6, 6, 1), [3, 2, 5]), job_of(PageLimits(2, 7), [3, 4, 2])]
+    return [job[:cut] for job in whole for cut in range(len(job))]
+
+
+def damaged_jobs():
+    """Bytes left over, first counts that mean nothing, counts of lengths that the file does not hold."""
+    whole = [job_of(Limits(1, 6, 6, 1), [3, 2, 5]), job_of(PageLimits(2, 7), [3, 4, 2]), job_of(PageLimits(2, 7), [])]
+    left_over = [job + bytes([255] * more) for job in whole for more in range(1, 5)]
+    counts = [pack([count, 1, 6, 6, 1, 1, 3]) for count in (0, 1, 3, 5, 2**32 - 1)]
+    # A first count is told by all four of its bytes, and before anything after it is looked at.
+    counts += [pack([0x0104, 1, 6, 6, 1, 1, 3]), pack([0x0400_0000]), pack([3]) + b"\1", pack([2**16 + 2, 0, 7, 1, 3])]
+    many = [pack([4, 1, 6, 6, 1, 4097]), pack([2, 2, 7, 4097]), pack([2, 2, 7, 2**32 - 1]), pack([4, 0, 0, 0, 0, 4097, 1])]
+    missing = [pack([4, 1, 6, 6, 1, 4096]), pack([2, 2, 7, 4096, 1]), pack([2, 2, 7, 4096, 1]) + b"\2\0\0"]
+    return left_over + counts + many + missing
+
+
+def random_jobs(r, count, most):
+    """Two paragraphs to one index; every ninth is one where the second inequality alone goes wrong."""
+    kinds = [oracle.random_paragraph, oracle.random_paragraph, oracle.random_index]
+    picked = []
+    for k in range(count):
+        kind = oracle.random_chord_case if k % 9 == 8 else kinds[k % 3]
+        picked.append(job_of(*kind(r, most)))
+    return picked
+
+
+def short_jobs():
+    r = random.Random(SEED)
+    fixed = listed_jobs() + marked_jobs() + chord_jobs() + paragraph_edges() + index_edges() + cut_jobs() + damaged_jobs()
+    return fixed + random_jobs(r, 420, 30) + random_jobs(r, 340, 12)
+
+
+def english_lengths(r, n):
+    """Word lengths as in English text, the space included."""
+    letters = [1, 2, 2, 2, 3, 3, 3, 3, 4, 4, 4, 5, 5, 6, 6, 7, 7, 8, 9, 10, 11]
+    return [r.choice(letters) + 1 for _ in range(n)]
+
+
+def long_jobs():
+    """The largest n; the largest total and the longest listing; the deepest queue; pages of many sizes."""
+    r = random.Random(SEED + 1)
+    return [
+        job_of(Limits(1, 1, 4095, 15), [4095] * 4096),
+        job_of(Limits(40, 66, 72, 3), english_lengths(r, 4096)),
+        job_of(PageLimits(300, 420), [r.randint(1, 12) for _ in range(4096)]),
+        job_of(Limits(1, 580, 600, 1), [r.randint(1, 2) for _ in range(1300)]),
+        job_of(PageLimits(0, 65535), [r.randint(1, 4095) for _ in range(1300)]),
+    ]
+
+
+def traced_jobs():
+    """Every marked row, every second-inequality list, bridged rears, some refusals, some dozens at random; n at most 12."""
+    r = random.Random(SEED + 2)
+    refused = [
+        job_of(Limits(1, 6, 6, 1), []), job_of(PageLimits(2, 7), []), job_of(Limits(1, 6, 6, 16), [3, 2]),
+        job_of(PageLimits(7, 7), [3, 2]), job_of(Limits(1, 6, 6, 1), [3, 0]), job_of(PageLimits(2, 7), [3, 2, 4096]),
+        job_of(Limits(9, 9, 10, 1), [8] * 12), job_of(PageLimits(9, 10), [8] * 12),
+    ]
+    return marked_jobs() + chord_jobs() + bridged_jobs(r, 12) + refused + random_jobs(r, 72, 12)
+
+
+# ---- the files --------------------------------------------------------------------------------------------------------
+
+def records(jobs):
+    return b"".join(len(job).to_bytes(2, "little") + job for job in jobs)
+
+
+def listings(jobs):
+    return "".join(oracle.listing(job) for job in jobs)
+
+
+def trace(job_bytes):
+    job = oracle.read_job(job_bytes)
+    names = oracle.PARAGRAPH_STRIPS if isinstance(job.limits, Limits) else oracle.INDEX_STRIPS
+    told, strips = oracle.set_job(job, more=2, fill=7)
+    rows = [f"{name}: {' '.join(map(str, strip))}" for name, strip in zip(names, strips)]
+    return "".join(row + "\n" for row in rows + ["told " + " ".join(map(str, told))])
+
+
+def files():
+    """Each file's name and bytes."""
+    short, long, traced = short_jobs(), long_jobs(), traced_jobs()
+    made = {
+        "jobs": (records(short), listings(short)),
+        "longs": (records(long), listings(long)),
+        "traces": (records(traced), "".join(map(trace, traced))),
+    }
+    for crate, (stdin, stdout) in made.items():
+        assert len(stdin) <= MOST_BYTES, (crate, len(stdin))
+        yield ROOT / "crates" / crate / "stdin", stdin
+        yield ROOT / "crates" / crate / "stdout", stdout.encode("ascii")
+
+
+def write():
+    for path, content in files():
+        path.parent.mkdir(parents=True, exist_ok=True)
+        path.write_bytes(content)
+        print(f"{path.relative_to(ROOT)}: {len(content)} bytes")
+
+
+def check():
+    differing = [path.relative_to(ROOT) for path, content in files() if not path.exists() or path.read_bytes() != content]
+    for path in differing:
+        print(f"{path}: differs from what the oracle gives", file=sys.stderr)
+    sys.exit(1 if differing else 0)
+
+
+if __name__ == "__main__":
+    check() if sys.argv[1:] == ["--check"] else write()

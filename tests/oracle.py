@@ -1,0 +1,783 @@
+#!/usr/bin/env python3
+"""Document 01 in plain Python, written from the paper and never from the engine.
+
+Three renderings of the same answers, so that a slip in one shows against the others:
+  by definition  every setting (or boundary sequence) is listed and the least is taken; for short lists only
+  by table       for each start every next is tried; quadratic, for lists of any length
+  by the rules   01's queue and pointer rules, word for word; these alone give the moves
+Above them stand the setter with every strip, the penalty asked for alone, the job reader and the listing.
+
+    python3 tests/oracle.py selftest [SEED]    compares the three, and 01's own cases; exit status 1 where they differ
+    python3 tests/oracle.py listing < JOB      prints the listing of a job
+"""
+import itertools
+import random
+import sys
+from collections import namedtuple
+
+NO_SETTING = 2**64 - 1
+MOST_WORDS = 4096
+MOST_LENGTH = 4095
+MOST_ALONE = 16_773_120
+EMPTY, MANY, LIMITS, LENGTH, ROOM, NONE, JOB = range(1, 8)
+ADD, PASS, DROP, POP, STEP, JUMP, LINK = range(1, 8)
+
+Limits = namedtuple("Limits", "lmin lopt lmax a")
+PageLimits = namedtuple("PageLimits", "lmin lmax")
+Told = namedtuple("Told", "number place total lines moves")
+# What a rendering says of the starts: for the paragraph entry 0 is start 1, for the index start 0; the end is last.
+Starts = namedtuple("Starts", "best next")
+
+PARAGRAPH_STRIPS = ("sums", "best", "next", "queue", "moves", "breaks")
+INDEX_STRIPS = ("sums", "best", "next", "left", "right", "moves", "boundaries")
+
+
+# ---- lengths ----------------------------------------------------------------------------------------------------------
+
+def running_sums(lengths):
+    """Entry k, from 0, is the total of the first k lengths."""
+    return list(itertools.accumulate(lengths, initial=0))
+
+
+def line(lengths, i, j):
+    """Line(i, j): the sum of the lengths of words i to j-1."""
+    return sum(lengths[i - 1:j - 1])
+
+
+def gap(lengths, a, b):
+    """Gap(a, b): the sum of the lengths strictly between a and b."""
+    return sum(lengths[a:b - 1])
+
+
+def penalty(limits, x):
+    return limits.a * (x - limits.lopt) ** 2
+
+
+# ---- by definition: every setting is listed ---------------------------------------------------------------------------
+
+def rising_lists(first, last):
+    """Every rising list that begins with `first` and goes no further than `last`."""
+    later = range(first + 1, last + 1)
+    for count in range(len(later) + 1):
+        for rest in itertools.combinations(later, count):
+            yield (first,) + rest
+
+
+def neighbours(points, end):
+    return list(zip(points, points[1:] + (end,)))
+
+
+def admissible(limits, lengths, starts):
+    """Every line but the last has lmin <= length <= lmax; the last has length <= lmax."""
+    lines = [line(lengths, i, j) for i, j in neighbours(starts, len(lengths) + 1)]
+    return all(limits.lmin <= x for x in lines[:-1]) and all(x <= limits.lmax for x in lines)
+
+
+def setting_total(limits, lengths, starts):
+    """The penalties of all lines; a last line of length <= lopt costs 0."""
+    lines = [line(lengths, i, j) for i, j in neighbours(starts, len(lengths) + 1)]
+    last = 0 if lines[-1] <= limits.lopt else penalty(limits, lines[-1])
+    return sum(penalty(limits, x) for x in lines[:-1]) + last
+
+
+def second_point(points, end):
+    return points[1] if len(points) > 1 else end
+
+
+def paragraph_start_by_definition(limits, lengths, i):
+    """(best, chosen next) of start i over all admissible settings of words i to n."""
+    n = len(lengths)
+    totals = {s: setting_total(limits, lengths, s) for s in rising_lists(i, n) if admissible(limits, lengths, s)}
+    if not totals:
+        return NO_SETTING, 0
+    best = min(totals.values())
+    if line(lengths, i, n + 1) <= limits.lopt:
+        return best, n + 1
+    return best, min(second_point(s, n + 1) for s, total in totals.items() if total == best)
+
+
+def paragraph_by_definition(limits, lengths):
+    n = len(lengths)
+    pairs = [paragraph_start_by_definition(limits, lengths, i) for i in range(1, n + 1)] + [(0, 0)]
+    return Starts([best for best, _ in pairs], [chosen for _, chosen in pairs])
+
+
+def paged(limits, lengths, boundaries):
+    """Every Gap between neighbours lies in lmin..lmax, the first and last page included."""
+    pages = [gap(lengths, a, b) for a, b in neighbours(boundaries, len(lengths) + 1)]
+    return all(limits.lmin <= page <= limits.lmax for page in pages)
+
+
+def index_start_by_definition(limits, lengths, i):
+    """(best, chosen next) of start i over all boundary sequences from i to n+1; w_i counts, for i from 1 to n."""
+    n = len(lengths)
+    totals = {s: sum(lengths[b - 1] for b in s if b) for s in rising_lists(i, n) if paged(limits, lengths, s)}
+    if not totals:
+        return NO_SETTING, 0
+    best = min(totals.values())
+    return best, max(second_point(s, n + 1) for s, total in totals.items() if total == best)
+
+
+def index_by_definition(limits, lengths):
+    n = len(lengths)
+    pairs = [index_start_by_definition(limits, lengths, i) for i in range(0, n + 1)] + [(0, 0)]
+    return Starts([best for best, _ in pairs], [chosen for _, chosen in pairs])
+
+
+# ---- by table: for each start every next is tried ---------------------------------------------------------------------
+
+def paragraph_nexts(limits, sums, best, i):
+    """(total, j) for each next j of start i that has a setting; `best` is kept by start."""
+    end = len(sums)
+    for j in range(i + 1, end + 1):
+        x = sums[j - 1] - sums[i - 1]
+        if x > limits.lmax:
+            return
+        last = j == end
+        if (last or x >= limits.lmin) and best[j] != NO_SETTING:
+            yield best[j] + (0 if last and x <= limits.lopt else penalty(limits, x)), j
+
+
+def paragraph_by_table(limits, lengths):
+    n = len(lengths)
+    sums = running_sums(lengths)
+    best, chosen = {n + 1: 0}, {n + 1: 0}
+    for i in range(n, 0, -1):
+        # The least total, and of equal totals the smallest next: pairs compare in that order.
+        best[i], chosen[i] = min(paragraph_nexts(limits, sums, best, i), default=(NO_SETTING, 0))
+        if sums[n] - sums[i - 1] <= limits.lopt:
+            chosen[i] = n + 1
+    return Starts([best[i] for i in range(1, n + 2)], [chosen[i] for i in range(1, n + 2)])
+
+
+def index_nexts(limits, sums, best, i):
+    """(best of j, -j) for each next j of start i: the sign makes the least pair the largest next."""
+    end = len(sums)
+    for j in range(i + 1, end + 1):
+        page = sums[j - 1] - sums[i]
+        if page > limits.lmax:
+            return
+        if page >= limits.lmin and best[j] != NO_SETTING:
+            yield best[j], -j
+
+
+def index_by_table(limits, lengths):
+    n = len(lengths)
+    sums = running_sums(lengths)
+    best, chosen = {n + 1: 0}, {n + 1: 0}
+    for i in range(n, -1, -1):
+        least, minus = min(index_nexts(limits, sums, best, i), default=(NO_SETTING, 0))
+        own = lengths[i - 1] if i else 0
+        best[i] = NO_SETTING if least == NO_SETTING else least + own
+        chosen[i] = -minus
+    return Starts([best[i] for i in range(0, n + 2)], [chosen[i] for i in range(0, n + 2)])
+
+
+def smaller_to_the_left(best, n):
+    """01's left strip: for j from 1 to n+1 the largest k with 1 <= k < j whose best is smaller, or 0. By a plain look."""
+    return [0] + [next((k for k in range(j - 1, 0, -1) if best[k] < best[j]), 0) for j in range(1, n + 2)]
+
+
+def not_larger_to_the_right(best, n):
+    """01's right strip: for j from 1 to n the smallest k > j whose best is not larger; the ends have 0."""
+    return [0] + [next(k for k in range(j + 1, n + 2) if best[k] <= best[j]) for j in range(1, n + 1)] + [0]
+
+
+# ---- by the rules: the queue ------------------------------------------------------------------------------------------
+
+class QueueRules:
+    """01's queue rules. best and next are kept by start; the queue's front is first, its rear last."""
+
+    def __init__(self, limits, lengths, chord_alone=False):
+        self.limits, self.n = limits, len(lengths)
+        self.sums = running_sums(lengths)
+        self.chord_alone = chord_alone    # 01's first error: bridging by the second inequality alone
+        self.queue, self.moves = [], []
+        self.bridges = []    # how many stood at each Pop of a bridged rear, to choose cases by
+        self.candidate = self.n + 1
+        self.best, self.next = {self.n + 1: 0}, {self.n + 1: 0}
+
+    def line(self, i, j):
+        return self.sums[j - 1] - self.sums[i - 1]
+
+    def through(self, i, j):
+        """F(i, j), also for j = n+1."""
+        return self.best[j] + penalty(self.limits, self.line(i, j))
+
+    def move(self, kind, index):
+        self.moves.append(8 * index + kind)
+
+    def bridged(self, j, k, l):
+        best, line, p, limits = self.best, self.line, penalty, self.limits
+        edge = (best[k] + p(limits, limits.lmax - line(k, l)) >= best[j] + p(limits, limits.lmax - line(j, l)))
+        chord = (line(j, l) * best[k] >= line(j, k) * best[l] + line(k, l) * best[j]
+                 + limits.a * line(j, k) * line(j, l) * line(k, l))
+        return chord and (edge or self.chord_alone)
+
+    def drop_long(self, i):
+        while self.queue and self.line(i, self.queue[0]) > self.limits.lmax:
+            self.move(DROP, self.queue.pop(0))
+
+    def add(self, i, candidate):
+        while self.queue and self.through(i, candidate) <= self.through(i, self.queue[-1]):
+            self.move(POP, self.queue.pop())
+        while len(self.queue) >= 2 and self.bridged(candidate, self.queue[-1], self.queue[-2]):
+            self.bridges.append(len(self.queue))
+            self.move(POP, self.queue.pop())
+        self.queue.append(candidate)
+        self.move(ADD, candidate)
+
+    def consider(self, i):
+        while self.line(i, self.candidate) >= self.limits.lmin:
+            j = self.candidate
+            if self.line(i, j) > self.limits.lmax or self.best[j] == NO_SETTING:
+                self.move(PASS, j)
+            else:
+                self.add(i, j)
+            self.candidate -= 1
+
+    def drop_worse(self, i):
+        while len(self.queue) >= 2 and self.through(i, self.queue[1]) <= self.through(i, self.queue[0]):
+            self.move(DROP, self.queue.pop(0))
+
+    def take(self, i):
+        if self.line(i, self.n + 1) <= self.limits.lopt:
+            self.best[i], self.next[i] = 0, self.n + 1
+        elif self.queue:
+            self.best[i], self.next[i] = self.through(i, self.queue[0]), self.queue[0]
+        else:
+            self.best[i], self.next[i] = NO_SETTING, 0
+
+    def run(self):
+        for i in range(self.n, 0, -1):
+            self.drop_long(i)
+            self.consider(i)
+            self.drop_worse(i)
+            self.take(i)
+        starts = range(1, self.n + 2)
+        return Starts([self.best[i] for i in starts], [self.next[i] for i in starts])
+
+
+# ---- by the rules: the pointer ----------------------------------------------------------------------------------------
+
+class PointerRules:
+    """01's pointer rules. best, next, left and right are lists by index, 0 to n+1."""
+
+    def __init__(self, limits, lengths):
+        self.limits, self.n, self.lengths = limits, len(lengths), lengths
+        self.sums = running_sums(lengths)
+        self.moves = []
+        self.r = self.n + 1
+        self.best, self.next, self.left, self.right = ([0] * (self.n + 2) for _ in range(4))
+
+    def gap(self, a, b):
+        return self.sums[b - 1] - self.sums[a]
+
+    def move(self, kind, index):
+        self.moves.append(8 * index + kind)
+
+    def step(self, i):
+        while self.gap(i, self.r) > self.limits.lmax:
+            self.r -= 1
+            self.move(STEP, self.r)
+
+    def jump(self, i):
+        while self.left[self.r] and self.gap(i, self.left[self.r]) >= self.limits.lmin:
+            self.r = self.left[self.r]
+            self.move(JUMP, self.r)
+
+    def take(self, i):
+        fits = self.limits.lmin <= self.gap(i, self.r) <= self.limits.lmax
+        if fits and self.best[self.r] != NO_SETTING:
+            self.best[i] = self.best[self.r] + (self.lengths[i - 1] if i else 0)
+            self.next[i] = self.r
+        else:
+            self.best[i], self.next[i] = NO_SETTING, 0
+
+    def link(self, i):
+        k = i + 1
+        while self.best[k] > self.best[i]:
+            self.left[k] = i
+            self.move(LINK, k)
+            k = self.right[k]
+        self.right[i] = k
+
+    def run(self):
+        for i in range(self.n, -1, -1):
+            self.step(i)
+            self.jump(i)
+            self.take(i)
+            if i >= 1:
+                self.link(i)
+        return Starts(self.best, self.next)
+
+
+# ---- refusals ---------------------------------------------------------------------------------------------------------
+
+class Refused(Exception):
+    """A refusal with its number and place."""
+
+    def __init__(self, number, place=0):
+        super().__init__(number, place)
+        self.told = Told(number, place, 0, 0, 0)
+
+
+def paragraph_limits_hold(limits):
+    ordered = 1 <= limits.lmin <= limits.lopt <= limits.lmax <= 4095
+    return ordered and limits.lmin < limits.lmax and 1 <= limits.a <= 15
+
+
+def page_limits_hold(limits):
+    return 0 <= limits.lmin < limits.lmax <= 65535
+
+
+def paragraph_room(n):
+    """The entries each strip must hold, in 01's order."""
+    return [n + 1, n + 1, n + 1, n, 2 * n, n]
+
+
+def index_room(n):
+    return [n + 1, n + 2, n + 2, n + 2, n + 2, 2 * n, n]
+
+
+def check(limits_hold, lengths, room, strips):
+    """Refusals 1 to 5 in their order."""
+    n = len(lengths)
+    if n == 0:
+        raise Refused(EMPTY)
+    if n > MOST_WORDS:
+        raise Refused(MANY)
+    if not limits_hold:
+        raise Refused(LIMITS)
+    for word, length in enumerate(lengths, 1):
+        if not 1 <= length <= MOST_LENGTH:
+            raise Refused(LENGTH, word)
+    for number, (needed, strip) in enumerate(zip(room(n), strips), 1):
+        if len(strip) < needed:
+            raise Refused(ROOM, number)
+
+
+# ---- the setter: what is told, and every entry of every strip ----------------------------------------------------------
+
+def over(front, strip):
+    """The front is written, the rest is as it was."""
+    return list(front) + list(strip[len(front):])
+
+
+def follow(chosen, first, end):
+    """The chosen nexts from `first` up to the end; chosen is by index."""
+    points = []
+    while first != end:
+        points.append(first)
+        first = chosen[first]
+    return points
+
+
+def same(*renderings):
+    """All renderings agree; the common one."""
+    assert all(r == renderings[0] for r in renderings), renderings
+    return renderings[0]
+
+
+def finish(fronts, strips, total, answer, moves):
+    """What is told and the strips after a call that refusals 1 to 5 let pass; the answer strip is the last."""
+    after = [over(front, strip) for front, strip in zip(fronts, strips)]
+    if total == NO_SETTING:
+        return Told(NONE, 0, 0, 0, len(moves)), after + [list(strips[-1])]
+    return Told(0, 0, total, len(answer), len(moves)), after + [over(answer, strips[-1])]
+
+
+def set_paragraph(limits, lengths, strips):
+    """(told, strips after) for strips in 01's order; what is lent is not changed."""
+    try:
+        check(paragraph_limits_hold(limits), lengths, paragraph_room, strips)
+    except Refused as refused:
+        return refused.told, [list(strip) for strip in strips]
+    n = len(lengths)
+    rules = QueueRules(limits, lengths)
+    starts = same(rules.run(), paragraph_by_table(limits, lengths))
+    found = starts.best[0] != NO_SETTING
+    breaks = follow([0] + starts.next, 1, n + 1) if found else []
+    fronts = [running_sums(lengths), starts.best, starts.next, [0] * n, rules.moves]
+    return finish(fronts, strips, starts.best[0], breaks, rules.moves)
+
+
+def set_index(limits, lengths, strips):
+    try:
+        check(page_limits_hold(limits), lengths, index_room, strips)
+    except Refused as refused:
+        return refused.told, [list(strip) for strip in strips]
+    n = len(lengths)
+    rules = PointerRules(limits, lengths)
+    starts = same(rules.run(), index_by_table(limits, lengths))
+    left = same(rules.left, smaller_to_the_left(starts.best, n))
+    right = same(rules.right, not_larger_to_the_right(starts.best, n))
+    found = starts.best[0] != NO_SETTING
+    boundaries = follow(starts.next, 0, n + 1)[1:] if found else []
+    fronts = [running_sums(lengths), starts.best, starts.next, left, right, rules.moves]
+    return finish(fronts, strips, starts.best[0], boundaries, rules.moves)
+
+
+def penalty_alone(limits, length):
+    """The penalty formula asked for alone: the total is the penalty."""
+    if not paragraph_limits_hold(limits):
+        return Told(LIMITS, 0, 0, 0, 0)
+    if length > MOST_ALONE:
+        return Told(LENGTH, 0, 0, 0, 0)
+    return Told(0, 0, penalty(limits, length), 0, 0)
+
+
+# ---- the job reader ---------------------------------------------------------------------------------------------------
+
+# A job as read: limits is Limits (count 4) or PageLimits (count 2).
+Job = namedtuple("Job", "limits lengths")
+
+
+def number_at(job, at):
+    """The 32-bit number at a byte offset, low byte first."""
+    if len(job) < at + 4:
+        raise Refused(JOB, at)
+    return int.from_bytes(job[at:at + 4], "little")
+
+
+def numbers_at(job, at, count):
+    return [number_at(job, at + 4 * k) for k in range(count)]
+
+
+def read_job(job, room=MOST_WORDS):
+    """The job, read in file order to its end; `room` is the length of the lengths strip. Raises Refused."""
+    count = number_at(job, 0)
+    if count not in (4, 2):
+        raise Refused(JOB, 0)
+    limits = (Limits if count == 4 else PageLimits)(*numbers_at(job, 4, count))
+    at = 4 + 4 * count
+    n = number_at(job, at)
+    if n > MOST_WORDS:
+        raise Refused(MANY)
+    if n > room:
+        raise Refused(ROOM, 1)
+    lengths = numbers_at(job, at + 4, n)
+    end = at + 4 + 4 * n
+    if len(job) > end:
+        raise Refused(JOB, end)
+    return Job(limits, lengths)
+
+
+def pack(numbers):
+    """The job file of some numbers."""
+    return b"".join(number.to_bytes(4, "little") for number in numbers)
+
+
+def job_of(limits, lengths):
+    return pack([len(limits), *limits, len(lengths), *lengths])
+
+
+# ---- the listing ------------------------------------------------------------------------------------------------------
+
+def lent(room, n, more=0, fill=0):
+    """Strips of the entries needed and `more` besides, each entry `fill`."""
+    return [[fill] * (needed + more) for needed in room(n)]
+
+
+def line_row(limits, lengths, first, after):
+    """A line's first word, length and penalty."""
+    x = line(lengths, first, after)
+    free = after == len(lengths) + 1 and x <= limits.lopt
+    return f"{first} {x} {0 if free else penalty(limits, x)}"
+
+
+def paragraph_rows(limits, lengths, told, strips):
+    breaks = strips[-1][:told.lines]
+    lines = zip(breaks, breaks[1:] + [len(lengths) + 1])
+    rows = [line_row(limits, lengths, i, j) for i, j in lines]
+    return [f"paragraph {len(lengths)}", f"penalty {told.total}", f"lines {told.lines}", *rows, f"moves {told.moves}"]
+
+
+def index_rows(limits, lengths, told, strips):
+    rows = [f"{b} {lengths[b - 1]}" for b in strips[-1][:told.lines]]
+    return [f"index {len(lengths)}", f"keys {told.total}", f"boundaries {told.lines}", *rows, f"moves {told.moves}"]
+
+
+def set_job(job, more=0, fill=0):
+    """(told, strips after) of a job that was read, with strips lent by the oracle."""
+    n = len(job.lengths)
+    if isinstance(job.limits, Limits):
+        return set_paragraph(job.limits, job.lengths, lent(paragraph_room, n, more, fill))
+    return set_index(job.limits, job.lengths, lent(index_room, n, more, fill))
+
+
+def listing(job_bytes):
+    """What the setting program prints for a job."""
+    try:
+        job = read_job(job_bytes)
+    except Refused as refused:
+        return f"refused {refused.told.number} {refused.told.place}\n"
+    told, strips = set_job(job)
+    if told.number:
+        return f"refused {told.number} {told.place}\n"
+    rows = paragraph_rows if isinstance(job.limits, Limits) else index_rows
+    return "".join(row + "\n" for row in rows(job.limits, job.lengths, told, strips))
+
+
+# ---- 01's own cases ---------------------------------------------------------------------------------------------------
+
+# The compositor's table: mark, limits, lengths, total (None for NONE), answer strip.
+MARKED = [
+    ("P1", Limits(1, 6, 6, 1), [3, 2, 2, 5], 13, [1, 2, 4]),
+    ("P2", Limits(6, 8, 10, 1), [4, 4, 3, 5, 2], 0, [1, 3, 5]),
+    ("P3", Limits(2, 4, 6, 1), [3, 2, 2], 1, [1, 2]),
+    ("P4", Limits(6, 8, 9, 1), [5, 5], None, []),
+    ("P5", Limits(6, 8, 9, 1), [5], 0, [1]),
+    ("P6", Limits(6, 8, 10, 1), [10], 4, [1]),
+    ("P7", Limits(6, 8, 10, 1), [11], None, []),
+    ("P8", Limits(6, 8, 10, 15), [10], 60, [1]),
+    ("G1", PageLimits(2, 7), [3, 4, 2, 5], 2, [3]),
+    ("G2", PageLimits(2, 7), [8], None, []),
+    ("G3", PageLimits(0, 7), [8], 8, [1]),
+    ("G4", PageLimits(0, 2), [1, 1, 1], 1, [3]),
+    ("G5", PageLimits(0, 7), [7], 0, []),
+]
+
+MARKED_MOVES = {"P1": [41, 43, 33, 25, 35, 28, 17], "G1": [39, 37, 30]}
+
+PARAGRAPH_LISTING = "paragraph 4\npenalty 13\nlines 3\n1 3 9\n2 4 4\n4 5 0\nmoves 7\n"
+INDEX_LISTING = "index 4\nkeys 2\nboundaries 1\n3 2\nmoves 3\n"
+
+# Lists where bridging by the second inequality alone goes wrong: name, limits, lengths, least total, the total it gives.
+# In the last two only a later start's best or next is wrong; its strips show it, the total does not.
+CHORD_ALONE = [
+    ("shortest", Limits(1, 5, 5, 11), [1, 1, 1, 3, 3], 88, 110),
+    ("six words", Limits(1, 5, 5, 5), [1, 1, 2, 2, 1, 3], 25, 45),
+    ("more than twice", Limits(1, 6, 6, 8), [2, 1, 3, 1, 2, 1, 3, 1], 32, 72),
+    ("lmin above 1", Limits(2, 5, 5, 2), [1, 1, 1, 2, 1, 1, 1, 1, 2, 2, 2], 4, 8),
+    ("later start", Limits(1, 5, 5, 10), [3, 1, 1, 1, 3, 3], 10, 10),
+    ("total 0", Limits(1, 4, 4, 4), [1, 1, 1, 1, 2, 1, 1, 1, 2, 1, 2, 1], 0, 0),
+]
+
+# Lists where a rear is bridged while just two stand; a rule that waits for a third takes other moves here.
+BRIDGED_OF_TWO = [
+    (Limits(2, 6, 6, 11), [3, 1, 1, 3, 3]),
+    (Limits(1, 66, 66, 2), [26, 18, 12, 12, 27, 39]),
+    (Limits(7, 13, 22, 14), [1, 10, 12, 7, 3, 2, 6, 8]),
+]
+
+
+# ---- chosen at random -------------------------------------------------------------------------------------------------
+
+def random_lengths(r, most):
+    """1 to `most` lengths; the narrower the range, the more totals are equal."""
+    widest = r.choice([1, 2, 2, 3, 5, 9, 40])
+    return [r.randint(1, widest) for _ in range(r.randint(1, most))], widest
+
+
+def random_limits(r, widest):
+    """Paragraph limits near the lengths, loose or tight, lopt often at an end."""
+    lmax = r.randint(2, 5 * widest + 2)
+    lmin = r.choice([1, lmax - 1, r.randint(1, lmax - 1)])
+    lopt = r.choice([lmin, lmax, r.randint(lmin, lmax), r.randint(lmin, lmax)])
+    return Limits(lmin, lopt, lmax, r.choice([1, 1, 2, 15, r.randint(1, 15)]))
+
+
+def random_page_limits(r, widest):
+    """Page limits near the lengths; short pages with a low lmin make the pointer jump."""
+    lmax = r.choice([r.randint(1, 5 * widest + 2), r.randint(widest // 2 + 1, 2 * widest)])
+    return PageLimits(r.choice([0, lmax - 1, r.randint(0, lmax - 1), r.randint(0, lmax // 3)]), lmax)
+
+
+def random_paragraph(r, most):
+    lengths, widest = random_lengths(r, most)
+    return random_limits(r, widest), lengths
+
+
+def random_index(r, most):
+    lengths, widest = random_lengths(r, most)
+    return random_page_limits(r, widest), lengths
+
+
+def chord_alone_differs(limits, lengths):
+    """Whether bridging by the second inequality alone gives some start another best or next."""
+    return QueueRules(limits, lengths).run() != QueueRules(limits, lengths, chord_alone=True).run()
+
+
+def random_chord_case(r, most):
+    """A paragraph on which the second inequality alone goes wrong."""
+    while True:
+        lmax = r.randint(4, 9)
+        limits = Limits(r.randint(1, 2), r.choice([lmax, lmax, lmax - 1]), lmax, r.randint(1, 15))
+        lengths = [r.randint(1, r.choice([2, 3])) for _ in range(r.randint(5, max(5, most)))]
+        if chord_alone_differs(limits, lengths):
+            return limits, lengths
+
+
+def bridges(limits, lengths):
+    """How many stood in the queue at each Pop of a bridged rear."""
+    rules = QueueRules(limits, lengths)
+    rules.run()
+    return rules.bridges
+
+
+def random_bridge_case(r, most, standing):
+    """A paragraph where a bridged rear is popped while `standing` stand."""
+    while True:
+        limits, lengths = random_paragraph(r, most)
+        if standing in bridges(limits, lengths):
+            return limits, lengths
+
+
+# ---- self test --------------------------------------------------------------------------------------------------------
+
+def greedy_total(limits, lengths):
+    """The total where each line is filled as far as it goes (01's second error)."""
+    starts = [1]
+    for word in range(2, len(lengths) + 1):
+        if line(lengths, starts[-1], word + 1) > limits.lmax:
+            starts.append(word)
+    return setting_total(limits, lengths, tuple(starts))
+
+
+def compare_paragraph(limits, lengths):
+    rules = QueueRules(limits, lengths)
+    starts = same(paragraph_by_definition(limits, lengths), paragraph_by_table(limits, lengths), rules.run())
+    assert len(rules.moves) <= 2 * len(lengths), (limits, lengths)
+    return starts.best[0] == NO_SETTING
+
+
+def compare_index(limits, lengths):
+    n = len(lengths)
+    rules = PointerRules(limits, lengths)
+    starts = same(index_by_definition(limits, lengths), index_by_table(limits, lengths), rules.run())
+    same(rules.left, smaller_to_the_left(starts.best, n))
+    same(rules.right, not_larger_to_the_right(starts.best, n))
+    assert len(rules.moves) <= 2 * n, (limits, lengths)
+    return starts.best[0] == NO_SETTING
+
+
+def test_marked():
+    for mark, limits, lengths, total, answer in MARKED:
+        told, strips = set_job(Job(limits, lengths), more=1, fill=7)
+        if total is None:
+            assert (told.number, told.place) == (NONE, 0), mark
+            assert strips[-1] == [7] * (len(lengths) + 1), mark
+        else:
+            assert told[:4] == (0, 0, total, len(answer)), mark
+            assert strips[-1] == over(answer, [7] * (len(lengths) + 1)), mark
+        moves = MARKED_MOVES.get(mark)
+        assert moves is None or strips[-2][:told.moves] == moves, mark
+        (compare_paragraph if isinstance(limits, Limits) else compare_index)(limits, lengths)
+    assert greedy_total(*MARKED[0][1:3]) == 17
+
+
+def test_chord_alone():
+    for name, limits, lengths, least, wrong in CHORD_ALONE:
+        assert chord_alone_differs(limits, lengths), name
+        assert QueueRules(limits, lengths, chord_alone=True).run().best[0] == wrong, name
+        assert paragraph_by_table(limits, lengths).best[0] == least, name
+
+
+def test_bridged_of_two():
+    for limits, lengths in BRIDGED_OF_TWO:
+        assert 2 in bridges(limits, lengths), (limits, lengths)
+
+
+def test_listings():
+    assert listing(pack([4, 1, 6, 6, 1, 4, 3, 2, 2, 5])) == PARAGRAPH_LISTING
+    assert listing(pack([2, 2, 7, 4, 3, 4, 2, 5])) == INDEX_LISTING
+    assert listing(job_of(*MARKED[3][1:3])) == "refused 6 0\n"
+
+
+def refusal(job_bytes, room=MOST_WORDS):
+    try:
+        read_job(job_bytes, room)
+    except Refused as refused:
+        return refused.told.number, refused.told.place
+    return 0, 0
+
+
+def test_reader():
+    whole = job_of(Limits(1, 6, 6, 1), [3, 2, 2, 5])
+    for cut in range(len(whole)):
+        assert refusal(whole[:cut]) == (JOB, cut // 4 * 4), cut
+    assert refusal(whole) == (0, 0) and refusal(whole, 4) == (0, 0)
+    assert refusal(whole, 3) == (ROOM, 1) and refusal(whole[:-1], 3) == (ROOM, 1)
+    for more in range(1, 5):
+        assert refusal(whole + bytes(more)) == (JOB, len(whole))
+    assert refusal(pack([3])) == (JOB, 0)
+    assert refusal(pack([2, 0, 7, 4097]), 0) == (MANY, 0)
+    assert refusal(pack([2, 0, 7, 0]), 0) == (0, 0)
+
+
+def test_edges():
+    """01, "On the edges"; each as a listing, so that reader and setter both stand behind it."""
+    def number(limits, lengths):
+        text = listing(job_of(limits, lengths))
+        return int(text.split()[1]) if text.startswith("refused") else 0
+    assert number(Limits(1, 2, 4095, 1), [1]) == 0 and number(Limits(1, 2, 4096, 1), [1]) == LIMITS
+    assert number(Limits(1, 2, 3, 0), [1]) == LIMITS and number(Limits(1, 2, 3, 16), [1]) == LIMITS
+    assert number(Limits(3, 3, 3, 1), [1]) == LIMITS and number(PageLimits(3, 3), [1]) == LIMITS
+    assert number(PageLimits(0, 65535), [1]) == 0 and number(PageLimits(0, 65536), [1]) == LIMITS
+    assert number(Limits(1, 2, 4095, 1), [4095]) == 0 and number(Limits(1, 2, 4095, 1), [4096]) == LENGTH
+    assert number(Limits(1, 2, 3, 1), [1] * 4096) == 0 and number(Limits(1, 2, 3, 1), [1] * 4097) == MANY
+    assert number(Limits(0, 0, 0, 0), []) == EMPTY and number(Limits(0, 0, 0, 0), [0]) == LIMITS
+
+
+def test_penalty():
+    assert penalty_alone(Limits(1, 6, 6, 1), 3).total == 9
+    assert penalty_alone(Limits(1, 1, 4095, 15), MOST_ALONE).total == 15 * (MOST_ALONE - 1) ** 2
+    assert penalty_alone(Limits(1, 1, 4095, 15), MOST_ALONE + 1) == Told(LENGTH, 0, 0, 0, 0)
+    assert penalty_alone(Limits(1, 1, 1, 15), MOST_ALONE + 1) == Told(LIMITS, 0, 0, 0, 0)
+
+
+def test_room():
+    """Strip after strip one entry too short: ROOM names the first, and nothing is written."""
+    for setter, limits, room in [(set_paragraph, Limits(1, 6, 6, 1), paragraph_room), (set_index, PageLimits(2, 7), index_room)]:
+        for short in range(len(room(4))):
+            strips = lent(room, 4, fill=7)
+            for later in range(short, len(strips)):
+                strips[later].pop()
+            told, after = setter(limits, [3, 2, 2, 5], strips)
+            assert told == Told(ROOM, short + 1, 0, 0, 0) and after == strips
+
+
+def test_random(seed, count):
+    """The three renderings on lists short enough to list every setting; how many of each kind had none."""
+    r = random.Random(seed)
+    nones = [0, 0]
+    for _ in range(count):
+        nones[0] += compare_paragraph(*random_paragraph(r, r.choice([4, 7, 9])))
+        nones[1] += compare_index(*random_index(r, r.choice([4, 7, 9])))
+    for _ in range(count // 100):
+        compare_paragraph(*random_chord_case(r, 11))
+    return nones
+
+
+def test_longer(seed, count):
+    """Table and rules on lists too long to list every setting; set_job compares them."""
+    r = random.Random(seed)
+    for _ in range(count):
+        set_job(Job(*random_paragraph(r, 120)))
+        set_job(Job(*random_index(r, 120)))
+
+
+def selftest(seed):
+    for test in (test_marked, test_chord_alone, test_bridged_of_two, test_listings, test_reader, test_edges, test_penalty, test_room):
+        test()
+    count, longer = 20_000, 2_000
+    nones = test_random(seed, count)
+    test_longer(seed + 1, longer)
+    print(f"{len(MARKED)} marked rows, {len(CHORD_ALONE)} lists where the second inequality alone goes wrong, both listings")
+    print(f"by definition = by table = by the rules: {count} paragraphs ({nones[0]} with none), "
+          f"{count} indexes ({nones[1]} with none), {count // 100} second-inequality lists")
+    print(f"by table = by the rules: {longer} longer paragraphs, {longer} longer indexes")
+
+
+def main(arguments):
+    if arguments[:1] == ["selftest"]:
+        selftest(int(arguments[1]) if len(arguments) > 1 else 1)
+    elif arguments == ["listing"]:
+        sys.stdout.write(listing(sys.stdin.buffer.read()))
+    else:
+        sys.exit(__doc__)
+
+
+if __name__ == "__main__":
+    main(sys.argv[1:])

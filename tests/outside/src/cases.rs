@@ -1,0 +1,144 @@
+//! Lists, limits, strip lengths and job files chosen at random: short and long, valid and damaged.
+use crate::random::Random;
+use hathurmo::raw::{Limits, PageLimits};
+
+/// Lengths from 1 to `widest`; the narrower the range, the more totals are equal.
+pub fn short_lengths(r: &mut Random, most: usize) -> (Vec<u32>, u32) {
+    let widest = r.pick(&[1, 2, 2, 3, 5, 9, 40, 400, 4095]);
+    let n = r.size(1, most);
+    ((0..n).map(|_| r.within(1, widest)).collect(), widest)
+}
+
+/// Limits near the lengths, loose or tight, lopt often at an end.
+pub fn limits(r: &mut Random, widest: u32) -> Limits {
+    let lmax = r.within(2, (5 * widest + 2).min(4095));
+    let lmin = if r.once_in(3) { 1 } else { r.pick(&[lmax - 1, lmax / 2 + 1, lmax / 3 + 1]).clamp(1, lmax - 1) };
+    let between = r.within(lmin, lmax);
+    Limits { lmin, lopt: r.pick(&[lmin, lmax, between, between]), lmax, a: r.pick(&[1, 1, 2, 7, 15]) }
+}
+
+/// Page limits near the lengths; short pages with a low lmin make the pointer jump.
+pub fn page_limits(r: &mut Random, widest: u32) -> PageLimits {
+    let (loose, short) = (r.within(1, 5 * widest + 2), r.within(widest / 2 + 1, 2 * widest));
+    let lmax = r.pick(&[loose, short, 65_535]).min(65_535);
+    let (below, third) = (r.within(0, lmax - 1), r.within(0, lmax / 3));
+    PageLimits { lmin: r.pick(&[0, lmax - 1, below, third]), lmax }
+}
+
+/// Lists on which bridging by the second inequality alone often goes wrong: short words, lopt at lmax, lines of a few words.
+pub fn chord_list(r: &mut Random, most: usize) -> (Limits, Vec<u32>) {
+    let lmax = r.within(4, 12);
+    let limits = Limits { lmin: r.within(1, 2), lopt: r.pick(&[lmax, lmax, lmax - 1]), lmax, a: r.within(1, 15) };
+    let widest = r.within(2, 3);
+    (limits, (0..r.size(5, most)).map(|_| r.within(1, widest)).collect())
+}
+
+/// Long lists, each with a width of its own: text, one unit, all equal, narrow, wide.
+pub fn long_lengths(r: &mut Random) -> (Vec<u32>, u32) {
+    let n = if r.once_in(3) { 4096 } else { r.size(1000, 4096) };
+    let widest = r.pick(&[1, 2, 12, 12, 64, 1000, 4095]);
+    let same = r.within(1, widest);
+    let equal = r.once_in(6);
+    ((0..n).map(|_| if equal { same } else { r.within(1, widest) }).collect(), widest)
+}
+
+/// Measures for long lists, from one word a line to thousands.
+pub fn long_limits(r: &mut Random, widest: u32) -> Limits {
+    let words = r.pick(&[1, 4, 12, 100, 600, 4095]);
+    let lmax = widest.saturating_mul(words).clamp(2, 4095);
+    let lmin = r.pick(&[1, lmax / 2, lmax * 3 / 4, lmax - 1]).clamp(1, lmax - 1);
+    Limits { lmin, lopt: r.within(lmin, lmax), lmax, a: r.within(1, 15) }
+}
+
+pub fn long_page_limits(r: &mut Random, widest: u32) -> PageLimits {
+    let items = r.pick(&[1, 2, 12, 75, 600, 65_535]);
+    let lmax = widest.saturating_mul(items).clamp(1, 65_535);
+    PageLimits { lmin: r.pick(&[0, lmax / 2, lmax * 3 / 4, lmax - 1]).min(lmax - 1), lmax }
+}
+
+/// A number just at or past some bound, or anything at all.
+fn odd_number(r: &mut Random) -> u32 {
+    let any = r.bits() as u32;
+    r.pick(&[0, 1, 15, 16, 4095, 4096, 4097, 65_535, 65_536, 16_773_120, 16_773_121, u32::MAX, any])
+}
+
+/// One of the limits becomes odd.
+pub fn damaged_limits(r: &mut Random, l: Limits) -> Limits {
+    let mut numbers = [l.lmin, l.lopt, l.lmax, l.a];
+    numbers[r.size(0, 3)] = odd_number(r);
+    let [lmin, lopt, lmax, a] = numbers;
+    Limits { lmin, lopt, lmax, a }
+}
+
+pub fn damaged_page_limits(r: &mut Random, l: PageLimits) -> PageLimits {
+    let mut numbers = [l.lmin, l.lmax];
+    numbers[r.size(0, 1)] = odd_number(r);
+    let [lmin, lmax] = numbers;
+    PageLimits { lmin, lmax }
+}
+
+/// One or two lengths become odd; now and then the list is empty or too long.
+pub fn damaged_lengths(r: &mut Random, mut lengths: Vec<u32>) -> Vec<u32> {
+    match r.within(1, 40) {
+        1 => return vec![],
+        2 => return vec![odd_number(r); r.pick(&[4097, 4098, 5000, 9000])],
+        _ => {}
+    }
+    for _ in 0..r.within(1, 2) {
+        let at = r.size(0, lengths.len() - 1);
+        lengths[at] = odd_number(r);
+    }
+    lengths
+}
+
+/// Each strip a little longer or shorter than needed, sometimes empty.
+pub fn lent_near(r: &mut Random, needed: &[usize]) -> Vec<usize> {
+    let mut near = |needed: usize| if r.once_in(30) { 0 } else { (needed + r.size(0, 3)).saturating_sub(r.size(0, 1)) };
+    needed.iter().map(|&needed| near(needed)).collect()
+}
+
+/// Each strip as needed or up to 4 entries longer.
+pub fn lent_enough(r: &mut Random, needed: &[usize]) -> Vec<usize> {
+    needed.iter().map(|&needed| needed + r.size(0, 4)).collect()
+}
+
+pub fn packed(numbers: &[u32]) -> Vec<u8> {
+    numbers.iter().flat_map(|number| number.to_le_bytes()).collect()
+}
+
+/// A whole job of either kind.
+pub fn job(r: &mut Random) -> Vec<u8> {
+    let most = r.pick(&[3, 12, 60]);
+    let n = r.size(0, most);
+    let mut numbers = vec![if r.once_in(2) { 4 } else { 2 }];
+    for _ in 0..numbers[0] {
+        numbers.push(odd_number(r));
+    }
+    numbers.push(n as u32);
+    for _ in 0..n {
+        numbers.push(if r.once_in(5) { odd_number(r) } else { r.within(1, 4095) });
+    }
+    packed(&numbers)
+}
+
+/// A job cut, lengthened, or with a byte or a whole number changed.
+pub fn damaged_job(r: &mut Random) -> Vec<u8> {
+    let mut job = job(r);
+    for _ in 0..r.within(1, 2) {
+        damage(r, &mut job);
+    }
+    job
+}
+
+fn damage(r: &mut Random, job: &mut Vec<u8>) {
+    let at = r.size(0, job.len());
+    match r.within(1, 6) {
+        1 => job.truncate(at),
+        2 => job.extend((0..r.within(1, 9)).map(|k| k as u8)),
+        3 => job.insert(at, r.bits() as u8),
+        4 if at < job.len() => job[at] = r.bits() as u8,
+        5 if at < job.len() => job[at] ^= 1 << r.within(0, 7),
+        6 if at + 4 <= job.len() => job[at / 4 * 4..at / 4 * 4 + 4].copy_from_slice(&odd_number(r).to_le_bytes()),
+        _ => {}
+    }
+}

@@ -1,0 +1,280 @@
+//! Compares the static library with document 01 as rendered in `paper` and `brute`: what is told, every entry of every strip, the
+//! entries past the part used, the memory around the strips, and the inputs. `tests/outside/run` builds and runs it.
+mod brute;
+mod call;
+mod cases;
+mod paper;
+mod random;
+
+use hathurmo::raw::{Limits, PageLimits};
+use random::Random;
+use std::sync::atomic::{AtomicUsize, Ordering};
+use std::sync::Mutex;
+
+const SEED: u64 = 19_870_001;
+/// Each kind of case is split into so many parts; a part has its own seed, so the number of threads changes nothing.
+const PARTS: usize = 16;
+
+/// What was met: calls, refusals by number, moves by kind.
+#[derive(Default)]
+struct Tally {
+    calls: usize,
+    numbers: [usize; 8],
+    kinds: [usize; 8],
+}
+
+impl Tally {
+    fn note(&mut self, number: u32, moves: &[u32]) {
+        self.calls += 1;
+        self.numbers[number as usize] += 1;
+        for entry in moves {
+            self.kinds[(entry % 8) as usize] += 1;
+        }
+    }
+
+    fn join(&mut self, other: &Tally) {
+        self.calls += other.calls;
+        for k in 0..8 {
+            self.numbers[k] += other.numbers[k];
+            self.kinds[k] += other.kinds[k];
+        }
+    }
+}
+
+type Done = Result<(), String>;
+
+fn set_paragraph(tally: &mut Tally, r: &mut Random, limits: Limits, lengths: &[u32], lent: &[usize]) -> Done {
+    let said = |what| format!("{what}\n  paragraph {limits:?}, lengths {lengths:?}, strips lent {lent:?}");
+    let (told, outcome) = call::paragraph(limits, lengths, lent, r).map_err(said)?;
+    tally.note(told.number, &outcome.narrow[3]);
+    Ok(())
+}
+
+fn set_index(tally: &mut Tally, r: &mut Random, limits: PageLimits, lengths: &[u32], lent: &[usize]) -> Done {
+    let said = |what| format!("{what}\n  index {limits:?}, lengths {lengths:?}, strips lent {lent:?}");
+    let (told, outcome) = call::index(limits, lengths, lent, r).map_err(said)?;
+    tally.note(told.number, &outcome.narrow[4]);
+    Ok(())
+}
+
+/// Lists short enough to list every setting: the plain way itself is compared first.
+fn brute_lists(r: &mut Random, tally: &mut Tally) -> Done {
+    let (lengths, widest) = cases::short_lengths(r, 9);
+    let (limits, pages) = (cases::limits(r, widest), cases::page_limits(r, widest));
+    let sums = paper::sums(&lengths);
+    assert_eq!(paper::paragraph_starts(limits, &sums), brute::paragraph(limits, &lengths), "{limits:?} {lengths:?}");
+    assert_eq!(paper::index_starts(pages, &lengths, &sums), brute::index(pages, &lengths), "{pages:?} {lengths:?}");
+    set_paragraph(tally, r, limits, &lengths, &paper::paragraph_room(lengths.len()))?;
+    set_index(tally, r, pages, &lengths, &paper::index_room(lengths.len()))
+}
+
+fn lists(r: &mut Random, tally: &mut Tally, most: usize) -> Done {
+    let (lengths, widest) = cases::short_lengths(r, most);
+    let n = lengths.len();
+    let (limits, pages) = (cases::limits(r, widest), cases::page_limits(r, widest));
+    let (lent, page_lent) = (cases::lent_enough(r, &paper::paragraph_room(n)), cases::lent_enough(r, &paper::index_room(n)));
+    set_paragraph(tally, r, limits, &lengths, &lent)?;
+    set_index(tally, r, pages, &lengths, &page_lent)
+}
+
+fn short_lists(r: &mut Random, tally: &mut Tally) -> Done {
+    lists(r, tally, 40)
+}
+
+fn middle_lists(r: &mut Random, tally: &mut Tally) -> Done {
+    lists(r, tally, 400)
+}
+
+fn chord_lists(r: &mut Random, tally: &mut Tally) -> Done {
+    let (limits, lengths) = cases::chord_list(r, 60);
+    set_paragraph(tally, r, limits, &lengths, &paper::paragraph_room(lengths.len()))
+}
+
+fn long_lists(r: &mut Random, tally: &mut Tally) -> Done {
+    let (lengths, widest) = cases::long_lengths(r);
+    let n = lengths.len();
+    let (limits, pages) = (cases::long_limits(r, widest), cases::long_page_limits(r, widest));
+    let (lent, page_lent) = (cases::lent_enough(r, &paper::paragraph_room(n)), cases::lent_enough(r, &paper::index_room(n)));
+    set_paragraph(tally, r, limits, &lengths, &lent)?;
+    set_index(tally, r, pages, &lengths, &page_lent)
+}
+
+/// Some of limits, lengths and strips are bad, so that the order of the refusals shows.
+fn damaged_lists(r: &mut Random, tally: &mut Tally) -> Done {
+    let (mut lengths, widest) = cases::short_lengths(r, 12);
+    let (mut limits, mut pages) = (cases::limits(r, widest), cases::page_limits(r, widest));
+    if r.once_in(2) {
+        (limits, pages) = (cases::damaged_limits(r, limits), cases::damaged_page_limits(r, pages));
+    }
+    if r.once_in(2) {
+        lengths = cases::damaged_lengths(r, lengths);
+    }
+    let n = lengths.len();
+    let (lent, page_lent) = (cases::lent_near(r, &paper::paragraph_room(n)), cases::lent_near(r, &paper::index_room(n)));
+    set_paragraph(tally, r, limits, &lengths, &lent)?;
+    set_index(tally, r, pages, &lengths, &page_lent)
+}
+
+/// The digits of a number in base 3, each 0, 1 or 2, low digit first.
+fn thirds(number: usize, count: usize) -> Vec<usize> {
+    (0..count).map(|place| number / 3usize.pow(place as u32) % 3).collect()
+}
+
+/// Every strip one entry short, just enough or one entry longer, in every combination: one n a case.
+fn strip_lengths(r: &mut Random, tally: &mut Tally) -> Done {
+    let lengths: Vec<u32> = (0..r.size(1, 6)).map(|_| r.within(1, 4)).collect();
+    let near = |needed: Vec<usize>, number| -> Vec<usize> {
+        needed.iter().zip(thirds(number, needed.len())).map(|(needed, third)| needed + third - 1).collect()
+    };
+    for number in 0..3usize.pow(6) {
+        let lent = near(paper::paragraph_room(lengths.len()), number);
+        set_paragraph(tally, r, Limits { lmin: 1, lopt: 5, lmax: 6, a: 2 }, &lengths, &lent)?;
+    }
+    for number in 0..3usize.pow(7) {
+        let lent = near(paper::index_room(lengths.len()), number);
+        set_index(tally, r, PageLimits { lmin: 0, lmax: 5 }, &lengths, &lent)?;
+    }
+    Ok(())
+}
+
+fn jobs(r: &mut Random, tally: &mut Tally) -> Done {
+    let job = if r.once_in(4) { cases::job(r) } else { cases::damaged_job(r) };
+    let held = job.len() / 4;
+    let room = r.pick(&[4096, 60, held, held.saturating_sub(6), held.saturating_sub(4), held.saturating_sub(5), 0]);
+    let number = call::job(&job, room, r).map_err(|what| format!("{what}\n  job {job:?}, lengths strip {room}"))?;
+    tally.note(number, &[]);
+    Ok(())
+}
+
+/// One whole job cut at every byte and lengthened by up to 9, with every length of the lengths strip near n.
+fn cut_jobs(r: &mut Random, tally: &mut Tally) -> Done {
+    let mut job = cases::job(r);
+    let whole = job.len();
+    job.extend([9; 9]);
+    let room = r.pick(&[whole / 4, (whole / 4).saturating_sub(7), 4096]);
+    for len in 0..=job.len() {
+        let number = call::job(&job[..len], room, r).map_err(|what| format!("{what}\n  job {:?}, strip {room}", &job[..len]))?;
+        tally.note(number, &[]);
+    }
+    Ok(())
+}
+
+/// Jobs on both sides of the most that is read, with a lengths strip on both sides of the most that is needed.
+fn long_jobs(r: &mut Random, tally: &mut Tally) -> Done {
+    let n = r.within(4094, 4098);
+    let mut numbers = if r.once_in(2) { vec![4, 1, 6, 6, 1, n] } else { vec![2, 2, 7, n] };
+    numbers.extend((0..n).map(|_| r.within(1, 4095)));
+    let mut job = cases::packed(&numbers);
+    job.truncate(job.len() - r.pick(&[0, 0, 0, 1, 4]));
+    job.resize(job.len() + r.pick(&[0, 0, 0, 1, 4]), 0);
+    let room = r.size(4093, 4099);
+    let number = call::job(&job, room, r).map_err(|what| format!("{what}\n  job of {n} lengths in {} bytes, strip {room}", job.len()))?;
+    tally.note(number, &[]);
+    Ok(())
+}
+
+fn penalties(r: &mut Random, tally: &mut Tally) -> Done {
+    let widest = r.pick(&[3, 60, 4095]);
+    let mut limits = cases::limits(r, widest);
+    if r.once_in(4) {
+        limits = cases::damaged_limits(r, limits);
+    }
+    let any = r.bits() as u32;
+    let length = r.pick(&[0, 1, limits.lopt, limits.lmax, 4095, any % 16_773_121, 16_773_120, 16_773_121, u32::MAX, any]);
+    let told = call::penalty(limits, length).map_err(|what| format!("{what}\n  penalty {limits:?}, length {length}"))?;
+    tally.note(told.number, &[]);
+    Ok(())
+}
+
+/// The safe functions say what the raw ones say.
+fn wrapped(r: &mut Random, tally: &mut Tally) -> Done {
+    let (lengths, widest) = cases::short_lengths(r, 20);
+    let limits = cases::limits(r, widest);
+    let mut room = hathurmo::ParagraphRoom::new(lengths.len());
+    let said = hathurmo::set_paragraph(limits, &lengths, room.lend());
+    let outcome = paper::paragraph(limits, &lengths, &paper::paragraph_room(lengths.len()));
+    let moves = outcome.told.moves as usize;
+    let expected = match outcome.told.number {
+        0 => Ok(hathurmo::Setting { total: outcome.told.total, lines: outcome.told.lines as usize, moves }),
+        _ => Err(hathurmo::Refusal::None { moves }),
+    };
+    tally.note(outcome.told.number, &outcome.narrow[3]);
+    if said == expected { Ok(()) } else { Err(format!("the wrapper: {said:?}, expected {expected:?}\n  {limits:?} {lengths:?}")) }
+}
+
+/// A kind of case: its name, how many there are, and one of them.
+type Kind = (&'static str, usize, fn(&mut Random, &mut Tally) -> Done);
+
+const KINDS: [Kind; 12] = [
+    ("every setting listed", 128_000, brute_lists),
+    ("short lists", 240_000, short_lists),
+    ("lists up to 400", 16_000, middle_lists),
+    ("second-inequality lists", 96_000, chord_lists),
+    ("lists up to 4096", 1_600, long_lists),
+    ("damaged lists", 200_000, damaged_lists),
+    ("strips of every length", 32, strip_lengths),
+    ("jobs", 250_000, jobs),
+    ("jobs cut at every byte", 1_600, cut_jobs),
+    ("jobs of about 4096 lengths", 1_600, long_jobs),
+    ("penalties alone", 250_000, penalties),
+    ("the safe wrapper", 30_000, wrapped),
+];
+
+fn run_part(kind: usize, part: usize) -> Result<Tally, String> {
+    let (name, count, case) = KINDS[kind];
+    let mut r = Random::new(SEED ^ (kind * PARTS + part) as u64 * 0x1_0000_0001);
+    let mut tally = Tally::default();
+    for _ in 0..count / PARTS {
+        case(&mut r, &mut tally).map_err(|what| format!("{name}: {what}"))?;
+    }
+    Ok(tally)
+}
+
+/// Takes parts until none is left; the first failure ends all.
+fn work(next: &AtomicUsize, tallies: &Mutex<Vec<Tally>>) {
+    loop {
+        let part = next.fetch_add(1, Ordering::Relaxed);
+        if part >= KINDS.len() * PARTS {
+            return;
+        }
+        // A part of each kind in turn, so that a failure of any kind shows early.
+        let kind = part % KINDS.len();
+        match run_part(kind, part / KINDS.len()) {
+            Ok(tally) => tallies.lock().expect("no thread failed")[kind].join(&tally),
+            Err(what) => {
+                eprintln!("{what}");
+                std::process::exit(1);
+            }
+        }
+    }
+}
+
+/// What was compared; fails where some refusal or some kind of move was never met, for then little was shown.
+fn report(tallies: &[Tally]) {
+    let mut all = Tally::default();
+    for ((name, _, _), tally) in KINDS.iter().zip(tallies) {
+        println!("{:>9} calls  {name}", tally.calls);
+        all.join(tally);
+    }
+    let names = ["set or read", "EMPTY", "MANY", "LIMITS", "LENGTH", "ROOM", "NONE", "JOB"];
+    let kinds = ["", "Add", "Pass", "Drop", "Pop", "Step", "Jump", "Link"];
+    let join = |names: &[&str], counts: &[usize]| -> Vec<String> {
+        names.iter().zip(counts).map(|(name, count)| format!("{name} {count}")).collect()
+    };
+    println!("{:>9} calls in all: {}", all.calls, join(&names, &all.numbers).join(", "));
+    println!("moves compared: {}", join(&kinds[1..], &all.kinds[1..]).join(", "));
+    assert!(all.numbers.iter().all(|&count| count > 0) && all.kinds[1..].iter().all(|&count| count > 0));
+    println!("every answer and every entry as document 01 says");
+}
+
+fn main() {
+    let next = AtomicUsize::new(0);
+    let tallies = Mutex::new(KINDS.map(|_| Tally::default()).into_iter().collect::<Vec<_>>());
+    let threads = std::thread::available_parallelism().map_or(2, |count| count.get());
+    std::thread::scope(|scope| {
+        for _ in 0..threads {
+            scope.spawn(|| work(&next, &tallies));
+        }
+    });
+    report(&tallies.into_inner().expect("no thread failed"));
+}
