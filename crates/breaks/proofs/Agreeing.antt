@@ -9,12 +9,11 @@ use native.Mathlib.Omega.{arith}
 use borrow.Author.Tests.{leb-true, leb-false}
 use lib.Dec.{leb}
 use lib.ListN.{length, getD}
-use lib.Seq.{slice}
 use Rattle.laws.specs.Number.{if}
 use Rattle.laws.specs.Cost.{Cost, none, some}
 use Rattle.laws.specs.Members.{Every}
 use Rattle.paper.specs.declared.Limits.{Limits}
-use Rattle.paper.specs.Allowed.{Passed, Ranges, ranges, limitsHold}
+use Rattle.paper.specs.Allowed.{Ranges, ranges, limitsHold}
 use Rattle.paper.specs.Paragraph.{line, end, best, chosenNext, penalty}
 use Rattle.paper.specs.Scale.{line-is}
 use Rattle.paper.specs.Bound.{paragraph-bound}

@@ -1,6 +1,6 @@
 -- Before the first start, and after the last. Assumes nothing but what each law states.
-use Prim.Native.Nat.{ℕ, suc, _+_, _-_, _*_, _≤_, _<_}
-use mathlib.Core.Path.{_≡_, refl, ap, sym, subst, _∙_}
+use Prim.Native.Nat.{ℕ, _+_, _-_, _*_, _≤_, _<_}
+use mathlib.Core.Path.{_≡_, ap, sym, _∙_}
 use mathlib.Core.Logic.{⊎-elim}
 use mathlib.Core.List.{List, [], _∷_, _++_}
 use native.Mathlib.Omega.{arith}
@@ -16,11 +16,11 @@ use Rattle.paper.specs.Allowed.{limitsHold}
 use Rattle.paper.specs.Paragraph as Paragraph
 use Rattle.paper.specs.Paragraph.{end, chosenNext, paragraph}
 use Rattle.paper.specs.Moves.{Taken, still}
-use Rattle.paper.specs.QueueRules.{Standing, textOf, afterStarts, queueMoves}
+use Rattle.paper.specs.QueueRules.{Standing, afterStarts, queueMoves}
 use Rattle.paper.specs.Strips.{entries, bestEntry}
 use Rattle.paper.specs.Entries.{length-entries, getD-entries}
 use Rattle.strips.specs.Running.{written}
-use Rattle.strips.specs.Words.{wordsOf, Holds, holds-length}
+use Rattle.strips.specs.Words.{wordsOf, holds-length}
 use Rattle.queue.specs.declared.Queue.{Queue}
 use Rattle.breaks.specs.Asks.{StartsAsk, Starts}
 use Rattle.breaks.proofs.Starting.{Started, soFar}

@@ -1,24 +1,20 @@
 -- A paragraph set, from its parts: the sums, the starts, the queue cleared, the breaks. Assumes nothing but what each law states.
-use Prim.Native.Nat.{ℕ, _+_, _-_, _*_, _^_, _≤_, _<_}
-use mathlib.Core.Path.{_≡_, refl, ap, sym, subst, _∙_}
+use Prim.Native.Nat.{ℕ, _+_, _-_, _^_, _≤_, _<_}
+use mathlib.Core.Path.{_≡_, refl, ap, sym, _∙_}
 use mathlib.Core.List.{List, [], _∷_, _++_}
 use native.Mathlib.Omega.{arith}
 use lib.ListN.{length, getD, take, drop, replicate, length-append, length-replicate, List·getD-append}
 use lib.Seq.{take-at, drop-at, length-take-le}
 use Rattle.laws.specs.Cost.{Cost, none, some, Has, has-some}
 use Rattle.laws.specs.Strip.{over, over-nil}
-use Rattle.laws.specs.Setting.{Problem}
-use Rattle.laws.specs.Chosen.{Next}
 use Rattle.paper.specs.declared.Limits.{Limits}
 use Rattle.paper.specs.declared.Answer.the-variants.{Set, None}
-use Rattle.paper.specs.Allowed.{Passed, Ranges, ranges, limitsHold}
-use Rattle.paper.specs.Paragraph.{end, best, chosenNext, breaks, paragraph}
+use Rattle.paper.specs.Allowed.{Ranges, ranges, limitsHold}
+use Rattle.paper.specs.Paragraph.{best, chosenNext, breaks, paragraph}
 use Rattle.paper.specs.Bound.{paragraph-bound}
 use Rattle.paper.specs.Right.{tie, chosen-paragraph, chosen-none}
-use Rattle.paper.specs.QueueRules.{queueMoves}
 use Rattle.paper.specs.Strips.{entries, sums, bestEntry, ParagraphStrips, paragraphStrips, paragraphWritten, paragraphSet}
 use Rattle.paper.specs.Entries.{length-entries, getD-entries}
-use Rattle.strips.specs.Running.{written}
 use Rattle.strips.specs.Words.{wordsOf, words-of-sums, holds-sums, length-sums}
 use Rattle.strips.specs.Chain.{nextIn, chain, Leads, chosen-leads, chain-all}
 use Rattle.strips.specs.Asks.{FollowAsk, Followed}

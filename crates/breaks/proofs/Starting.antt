@@ -1,22 +1,21 @@
 -- The starts, one after the other, each lent the moves strip from the present count on. Assumes nothing but what each law states.
 use Prim.Native.Nat.{ℕ, suc, _+_, _-_, _*_, _≤_, _<_}
-use mathlib.Core.Path.{_≡_, refl, ap, sym, subst, _∙_}
+use mathlib.Core.Path.{_≡_, ap, sym, _∙_}
 use mathlib.Core.Logic.{⊎-elim}
-use mathlib.Core.List.{List, [], _∷_, _++_, map}
+use mathlib.Core.List.{List, _++_, map}
 use native.Mathlib.Omega.{arith}
 use borrow.Rule.Slice.PartMut.{putMid}
 use lib.ListN.{length, getD, take, drop, set, length-set, length-append, length-drop}
 use lib.Seq.{slice, length-slice, getD-set-same, getD-set-other}
 use Rattle.laws.specs.Number.{split}
-use Rattle.laws.specs.Members.{Every, every-map}
-use Rattle.laws.specs.Strip.{over, over-nil, over-back, length-over, lent-is}
+use Rattle.laws.specs.Members.{every-map}
+use Rattle.laws.specs.Strip.{over, over-back, length-over, lent-is}
 use Rattle.paper.specs.declared.Limits.{Limits}
-use Rattle.paper.specs.declared.Move.{Move}
-use Rattle.paper.specs.Allowed.{Passed, ranges, limitsHold}
+use Rattle.paper.specs.Allowed.{limitsHold}
 use Rattle.paper.specs.Paragraph as Paragraph
 use Rattle.paper.specs.Paragraph.{end, chosenNext}
 use Rattle.paper.specs.Moves.{Taken, code, joined}
-use Rattle.paper.specs.QueueRules.{Standing, textOf, atStart, afterStarts, queueAt, queueMoves}
+use Rattle.paper.specs.QueueRules.{Standing, textOf, atStart, afterStarts, queueAt}
 use Rattle.paper.specs.Strips.{bestEntry}
 use Rattle.queue_right.specs.Count.{afterStarts-count, moves-so-far}
 use Rattle.lines.specs.Held.{textIn}
@@ -24,7 +23,7 @@ use Rattle.strips.specs.Running.{written, map-append, length-codes}
 use Rattle.strips.specs.Words.{wordsOf, Holds, holds-length}
 use Rattle.queue.specs.declared.Queue.{Queue}
 use Rattle.queue.specs.Asks.{Member, Queued, StartAsks, Left}
-use Rattle.breaks.specs.Asks.{SettleAsks, Settles, StartsAsk, Starts}
+use Rattle.breaks.specs.Asks.{SettleAsks, Settles}
 use Rattle.breaks.proofs.Agreeing.{Done, done-words, done-bests, done-rules, done-takes}
 
 -- the moves of all starts down to i + 1, and what stands then

@@ -1,7 +1,7 @@
 -- The three cases of what a start takes, in the values that the code has at hand. Assumes nothing.
-use Prim.Native.Nat.{ℕ, _+_, _-_, _^_, _≤_, _<_}
-use mathlib.Core.Path.{_≡_, refl, ap, sym, subst, _∙_}
-use mathlib.Core.List.{List, [], _∷_}
+use Prim.Native.Nat.{ℕ, _-_, _^_, _≤_, _<_}
+use mathlib.Core.Path.{_≡_, ap, _∙_}
+use mathlib.Core.List.{List}
 use native.Mathlib.Omega.{arith}
 use borrow.Author.Tests.{le-leb, lt-leb}
 use lib.ListN.{length, getD, set}

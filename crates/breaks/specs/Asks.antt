@@ -4,7 +4,6 @@ use mathlib.Core.Path.{_≡_}
 use mathlib.Core.List.{List, [], _∷_, _++_}
 use lib.Dec.{leb}
 use lib.ListN.{length, set}
-use lib.Seq.{slice}
 use Rattle.laws.specs.Number.{if}
 use Rattle.paper.specs.declared.Limits.{Limits}
 use Rattle.paper.specs.declared.Answer.{Answer}
@@ -12,9 +11,8 @@ use Rattle.paper.specs.Allowed.{limitsHold, Passed}
 use Rattle.paper.specs.Paragraph as Paragraph
 use Rattle.paper.specs.QueueRules.{Text, F, front, queueMoves}
 use Rattle.paper.specs.Strips.{entries, bestEntry, ParagraphStrips, ParagraphOutcome}
-use Rattle.lines.specs.Held.{textIn}
 use Rattle.strips.specs.Running.{written}
-use Rattle.strips.specs.Words.{wordsOf, Holds}
+use Rattle.strips.specs.Words.{Holds}
 use Rattle.queue.specs.declared.Queue.{Queue}
 use Rattle.queue.specs.Asks.{Words, Queued}
 

@@ -9,7 +9,7 @@ use native.Mathlib.Omega.{arith}
 use lib.Dec.{T, leb, leb→le, nleb→lt}
 use Rattle.laws.specs.Number.{both}
 use Rattle.laws.specs.Cost.{Cost, none, some, _≼_, leq, leq→≼, ≼→leq, ≼-refl, ≼-antisym, some-inj, Has, before, before-has, Reached}
-use Rattle.laws.specs.Search.{Tie, Ahead, Found, Missing, Picked, pick, pick-is, ahead-antisym}
+use Rattle.laws.specs.Search.{Tie, Ahead, Found, Missing, pick, pick-is, ahead-antisym}
 use Rattle.laws.specs.Setting.{Problem, Monotone, Choice, Admissible, admissible-early, total, LeastTotal, through, Step}
 use Rattle.laws.specs.Table.{best, best-steps, best-end, best-is}
 

@@ -6,7 +6,7 @@ use mathlib.Core.Logic.{_⊎_, inl, inr, ⊎-elim}
 use mathlib.Core.Bool.{Bool, true, false}
 use native.Mathlib.Omega.{arith}
 use lib.Dec.{T}
-use Rattle.laws.specs.Number.{split, if, tested}
+use Rattle.laws.specs.Number.{split}
 
 -- Between equal choices the smallest index is taken, or the largest.
 pub data Tie : Type 0 where

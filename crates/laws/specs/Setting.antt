@@ -2,14 +2,14 @@
 -- admissibility (the last line's own rule included) and any monotone way totals join. Assumes nothing.
 use Prim.Native.Nat.{ℕ, zero, suc, _+_, _-_, _*_, max, _≤_, _<_}
 use mathlib.Core.Path.{_≡_, refl, ap, sym, subst, _∙_}
-use mathlib.Core.Logic.{_⊎_, inl, inr, ⊎-elim}
-use mathlib.Core.Bool.{Bool, true, false}
+use mathlib.Core.Logic.{⊎-elim}
+use mathlib.Core.Bool.{Bool}
 use mathlib.Core.List.{List, [], _∷_}
 use native.Mathlib.Nat.{mul-le-mul-right}
 use native.Mathlib.Omega.{arith}
 use lib.Dec.{T}
 use Rattle.laws.specs.Number.{split}
-use Rattle.laws.specs.Cost.{Cost, none, some, _≼_, ≼-refl, ≼-trans, some-inj, some-not-none, before, before-mono, Reached, Least, least-unique, least-wider}
+use Rattle.laws.specs.Cost.{Cost, none, some, _≼_, ≼-refl, ≼-trans, some-inj, before, before-mono, Reached, Least, least-unique}
 
 -- A line goes from a start up to a later start or to the end. `fits` says which lines are admissible, `cost` what one
 -- costs, `join` how a line's cost joins the total of the rest, `done` what is left to pay at the end.

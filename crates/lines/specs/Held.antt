@@ -1,14 +1,13 @@
 -- The text that the strips hold: what the rules read, from a sums strip and a best strip alone. Assumes nothing.
-use Prim.Native.Nat.{ℕ, _-_, _^_, _≤_, _<_}
-use mathlib.Core.Path.{_≡_, refl}
-use mathlib.Core.Bool.{true, false}
+use Prim.Native.Nat.{ℕ, _-_, _^_, _<_}
+use mathlib.Core.Path.{_≡_}
 use mathlib.Core.List.{List}
 use native.Mathlib.Omega.{arith}
 use borrow.Author.Tests.{ne-eqb}
 use lib.Dec.{eqb}
 use lib.ListN.{getD}
 use Rattle.laws.specs.Number.{if}
-use Rattle.laws.specs.Cost.{Cost, none, some, value, has?}
+use Rattle.laws.specs.Cost.{Cost, none, some, value}
 use Rattle.paper.specs.declared.Limits.{Limits}
 use Rattle.paper.specs.Paragraph.{penalty}
 use Rattle.paper.specs.QueueRules.{Text}

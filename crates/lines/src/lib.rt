@@ -2,8 +2,7 @@
 // callers meet.
 use paper::Limits;
 ghost use mathlib.Core.Path.{_≡_};
-ghost use mathlib.Core.Bool.{Bool};
-ghost use Prim.Native.Nat.{ℕ, _+_, _*_, _^_, _≤_, _<_};
+ghost use Prim.Native.Nat.{_+_, _*_, _^_, _≤_, _<_};
 ghost use lib.Dec.{leb};
 ghost use Rattle.paper.specs.Allowed.{Ranges};
 ghost use Rattle.paper.specs.Paragraph.{penalty as formula};

@@ -13,7 +13,8 @@ use Rattle.pointer_right.specs.Ready.{Ready, ready}
 use Rattle.pointer_right.specs.Entries.{left-right, right-right}
 use Rattle.pointer_right.specs.Count.{starts-count}
 use Rattle.strips.specs.Running.{Ran, ran-length, joined-room, joined-ran}
-use Rattle.pointer.specs.Held.{wordsOf, Bests, bests-more, sums-size}
+use Rattle.pointer.specs.Held.{Bests, bests-more}
+use Rattle.strips.specs.Words.{wordsOf, sums-size}
 use Rattle.pointer.specs.Asks as Pointer
 use Rattle.pages.specs.Asks.{StartsAsk, Started}
 use Rattle.pages.proofs.Nexts.{Nexts, bests-first, bests-all, nexts-first, nexts-more, nexts-all}

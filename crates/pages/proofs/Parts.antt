@@ -6,13 +6,12 @@ use native.Mathlib.Omega.{arith}
 use lib.ListN.{length, take, drop, length-append}
 use lib.Seq.{take-at, length-take-le}
 use Rattle.laws.specs.Strip.{over}
+use Rattle.paper.specs.Allowed.{pageLimitsHold}
 use Rattle.paper.specs.declared.PageLimits.{PageLimits}
 use Rattle.paper.specs.Index as Index
-use Rattle.paper.specs.PointerRules.{pointerMoves}
 use Rattle.paper.specs.Strips.{entries, sums, bestEntry, leftEntry, rightEntry}
 use Rattle.paper.specs.Entries.{length-entries}
-use Rattle.strips.specs.Running.{written}
-use Rattle.pointer.specs.Held.{wordsOf, words-of-sums, held-sums, length-sums}
+use Rattle.strips.specs.Words.{wordsOf, words-of-sums, holds-sums, length-sums}
 use Rattle.pages.specs.Asks.{StartsAsk, Started, FillAsk, Filled}
 
 -- ---- the parts that are used
@@ -26,7 +25,7 @@ pub fill-starts : (l : PageLimits) (ws S₀ B N L R m S : List ℕ) → FillAsk 
 fill-starts l ws S₀ B N L R m S a e =
     rw (front ws S₀ S e)
     (record {
-      held = held-sums l ws (a .passed);
+      held = holds-sums (pageLimitsHold l) ws (a .passed);
       best = omega (arith, length-take-le (length ws + 2) B (a .best), length-sums ws);
       next = omega (arith, length-take-le (length ws + 2) N (a .next), length-sums ws);
       left = omega (arith, length-take-le (length ws + 2) L (a .left), length-sums ws);

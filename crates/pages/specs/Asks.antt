@@ -11,11 +11,11 @@ use Rattle.paper.specs.Index as Index
 use Rattle.paper.specs.PointerRules.{pointerMoves}
 use Rattle.paper.specs.Strips.{entries, sums, bestEntry, leftEntry, rightEntry, IndexStrips, IndexOutcome, indexSet}
 use Rattle.strips.specs.Running.{written}
-use Rattle.pointer.specs.Held.{Holds}
+use Rattle.strips.specs.Words.{Holds}
 
 -- the sums of a text, strips of just the entries used, and room for the moves
 pub record StartsAsk (l : PageLimits) (S B N L R m : List ℕ) : Type 0 where
-  pub held : Holds l S
+  pub held : Holds (pageLimitsHold l) S
   pub best : length B ≡ length S + 1
   pub next : length N ≡ length S + 1
   pub left : length L ≡ length S + 1

@@ -7,7 +7,7 @@ use pointer::at_start;
 use strips::clear;
 use strips::fill_sums;
 use strips::follow;
-ghost use Rattle.pointer.specs.Held.{wordsOf};
+ghost use Rattle.strips.specs.Words.{wordsOf};
 ghost use Rattle.pages.specs.Asks.{StartsAsk, Started, FillAsk, Filled, PageAsk, Paged};
 
 // "At start i, from n down to 0", on strips of just the entries used. Answers the number of moves.

@@ -1,17 +1,17 @@
 -- "With these the penalty of a line inside the measure stays below 2^28 and a paragraph's below 2^40."
-use Prim.Native.Nat.{ℕ, zero, suc, _+_, _-_, _*_, _^_, _≤_, _<_}
-use mathlib.Core.Path.{_≡_, refl, ap, sym, subst, _∙_}
+use Prim.Native.Nat.{ℕ, zero, suc, _-_, _*_, _^_, _≤_, _<_}
+use mathlib.Core.Path.{_≡_, refl, subst}
 use mathlib.Core.Bool.{Bool, true, false, _&&_}
 use mathlib.Core.Logic.{⊎-elim}
 use mathlib.Core.List.{List, _∷_}
-use native.Mathlib.Nat.{mul-le-mul, mul-le-mul-right, mul-le-mul-left}
+use native.Mathlib.Nat.{mul-le-mul, mul-le-mul-right}
 use native.Mathlib.Omega.{arith}
 use lib.Dec.{T, leb, eqb, leb→le}
 use lib.ListN.{length, getD, List·getD-eq-default}
 use Rattle.laws.specs.Number.{if, both, all, split}
-use Rattle.laws.specs.Cost.{Cost, none, some}
+use Rattle.laws.specs.Cost.{some}
 use Rattle.laws.specs.Square.{sqd}
-use Rattle.laws.specs.Setting.{Choice, Best, best-bound}
+use Rattle.laws.specs.Setting.{Best, best-bound}
 use Rattle.laws.specs.Table as Table
 use Rattle.paper.specs.declared.Limits.{Limits}
 use Rattle.paper.specs.declared.PageLimits.{PageLimits}

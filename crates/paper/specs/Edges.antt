@@ -1,14 +1,12 @@
 -- 01's edges and worked moves, computed from the definitions. Assumes nothing.
-use Prim.Native.Nat.{ℕ, _+_}
+use Prim.Native.Nat.{ℕ}
 use mathlib.Core.Path.{_≡_, refl}
-use mathlib.Core.Bool.{Bool, true, false}
+use mathlib.Core.Bool.{true, false}
 use mathlib.Core.List.{List, [], _∷_, map}
 use lib.ListN.{replicate}
-use Rattle.laws.specs.Cost.{some}
 use Rattle.laws.specs.Square.{sqd}
 use Rattle.laws.specs.Setting.{total}
 use Rattle.laws.specs.Table as Table
-use Rattle.laws.specs.Chosen.{next}
 use Rattle.paper.specs.declared.Limits.{Limits}
 use Rattle.paper.specs.declared.PageLimits.{PageLimits}
 use Rattle.paper.specs.declared.Refusal.the-variants.{Empty, Many, Limits as BadLimits, Length}

@@ -1,7 +1,7 @@
 -- 01, "Moves", the pointer rules, step by step. A rule gives the moves that it takes and what stands afterwards.
 use Prim.Native.Nat.{ℕ, zero, suc, _+_, _-_}
-use mathlib.Core.Bool.{Bool, true, false, not, _&&_}
-use mathlib.Core.List.{List, [], _∷_}
+use mathlib.Core.Bool.{Bool, true, false, _&&_}
+use mathlib.Core.List.{List}
 use lib.Dec.{leb, ltb}
 use lib.ListN.{length, getD, set, replicate}
 use Rattle.laws.specs.Cost.{Cost, leq, has?}

@@ -1,14 +1,14 @@
 -- 01, "Moves", the queue rules, step by step. A rule gives the moves that it takes and what stands afterwards.
 use Prim.Native.Nat.{ℕ, zero, suc, _+_, _-_, _*_}
 use mathlib.Core.Bool.{Bool, true, false, not, _&&_, _||_}
-use mathlib.Core.List.{List, [], _∷_, _++_, reverse}
+use mathlib.Core.List.{List, [], _∷_, reverse}
 use lib.Dec.{leb, ltb}
 use lib.ListN.{length}
 use Rattle.laws.specs.Cost.{Cost, has?, value}
 use Rattle.paper.specs.declared.Limits.{Limits}
 use Rattle.paper.specs.declared.Kind.the-variants.{Add, Pass, Drop, Pop}
 use Rattle.paper.specs.declared.Move.{Move}
-use Rattle.paper.specs.Paragraph.{line, penalty, best, end}
+use Rattle.paper.specs.Paragraph.{line, penalty, best}
 use Rattle.paper.specs.Moves.{move, Taken, still, moved, joined}
 
 -- What the rules read: the limits, the penalty formula, Line from a start to a break, Line between two breaks, and the best of

@@ -3,16 +3,16 @@
 use Prim.Native.Nat.{ℕ, _+_, _≤_, _<_}
 use mathlib.Core.Path.{_≡_, refl, ap, sym, subst, _∙_}
 use mathlib.Core.Logic.{_↔_}
-use mathlib.Core.Bool.{Bool, true, false, _&&_}
+use mathlib.Core.Bool.{Bool, true, false}
 use mathlib.Core.List.{List, [], _∷_}
 use native.Mathlib.Omega.{arith}
-use lib.Dec.{T, leb, eqb, leb→le, le→leb}
+use lib.Dec.{leb, eqb, le→leb}
 use lib.ListN.{length}
 use borrow.Author.Tests.{eq-eqb, leb-true, le-leb}
 use Rattle.laws.specs.Number.{if}
 use Rattle.laws.specs.Cost.{Cost, none, some, _≼_, Has, has-some}
 use Rattle.laws.specs.Search.{Tie, smallest, largest}
-use Rattle.laws.specs.Setting.{Problem, Monotone, Choice, Admissible, total, Best, through}
+use Rattle.laws.specs.Setting.{Monotone, Choice, Admissible, total, Best, through}
 use Rattle.laws.specs.Table as Table
 use Rattle.laws.specs.Chosen.{Next, next, next-is, next-none, Follows, follow, follow-follows, Cheapest, follows-cheapest, none-exactly}
 use Rattle.paper.specs.declared.Limits.{Limits}

@@ -7,7 +7,7 @@ use lib.ListN.{length, getD}
 use Rattle.paper.specs.Scale.{upTo, upTo-le, gap-is}
 use Rattle.paper.specs.Index.{gap}
 use Rattle.paper.specs.Strips.{sums}
-use Rattle.pointer.specs.Held.{sums-size, getD-sums}
+use Rattle.strips.specs.Words.{sums-size, getD-sums}
 
 module _ (S ws : List ℕ) (is : S ≡ sums ws) where
   pub sum-at : (k : ℕ) → k < length S → getD S k 0 ≡ upTo ws k

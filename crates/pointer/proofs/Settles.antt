@@ -20,7 +20,7 @@ use Rattle.paper.specs.Strips.{sums, bestEntry}
 use Rattle.pointer_right.specs.Turns.{true-not-false}
 use Rattle.pointer_right.specs.Choice.{Choosing, chooser-is, chooser-near}
 use Rattle.pointer.specs.Asks.{Settled}
-use Rattle.pointer.specs.Held.{sums-size}
+use Rattle.strips.specs.Words.{sums-size}
 use Rattle.pointer.proofs.Scale.{sum-at}
 
 -- ---- "The best of start i counts w_i for i from 1 to n, and nothing for 0"

@@ -11,7 +11,8 @@ use Rattle.paper.specs.PointerRules.{pagesOf, links, Pointing, pointed, linked,
 use Rattle.pointer_right.specs.Ready.{ready-falls, ready-rises, ready-pointed, Pointed}
 use Rattle.pointer_right.specs.Choice.{Choosing, ready-choosing}
 use Rattle.strips.specs.Running.{Ran, joined-first, joined-room, joined-ran}
-use Rattle.pointer.specs.Held.{wordsOf, Bests, bests-more, sums-size}
+use Rattle.pointer.specs.Held.{Bests, bests-more}
+use Rattle.strips.specs.Words.{wordsOf, sums-size}
 use Rattle.pointer.specs.Asks.{pagesIn, JumpsAsk, LinksAsk, SettleAsk, StartAsk, Joins, Settled, Started}
 
 -- the links are all the moves of a start past 0

@@ -4,6 +4,7 @@ use Prim.Native.Nat.{ℕ, suc, _+_, _≤_, _<_}
 use mathlib.Core.Path.{_≡_}
 use mathlib.Core.List.{List}
 use lib.ListN.{length, getD, set}
+use Rattle.paper.specs.Allowed.{pageLimitsHold}
 use Rattle.paper.specs.declared.PageLimits.{PageLimits}
 use Rattle.paper.specs.Index as Index
 use Rattle.paper.specs.Moves.{Taken}
@@ -12,7 +13,8 @@ use Rattle.paper.specs.Strips.{sums, bestEntry}
 use Rattle.pointer_right.specs.Ready.{Ready}
 use Rattle.pointer_right.specs.Choice.{Choosing}
 use Rattle.strips.specs.Running.{Ran}
-use Rattle.pointer.specs.Held.{wordsOf, Holds, Bests}
+use Rattle.pointer.specs.Held.{Bests}
+use Rattle.strips.specs.Words.{wordsOf, Holds}
 
 -- what the rules read, of the text that a sums strip holds
 abbrev pub pagesIn : PageLimits → List ℕ → Pages
@@ -27,7 +29,7 @@ pub record GapAsk (S : List ℕ) (a b : ℕ) : Type 0 where
 
 -- an index r after start i, and room for a rule's moves
 pub record StepsAsk (rule : Taken ℕ) (l : PageLimits) (i : ℕ) (S : List ℕ) (r room : ℕ) : Type 0 where
-  pub held : Holds l S
+  pub held : Holds (pageLimitsHold l) S
   pub above : i < r
   pub within : r ≤ length S
   pub enough : length (rule .moves) ≤ room
@@ -57,7 +59,7 @@ pub record OwnAsk (S : List ℕ) (i : ℕ) : Type 0 where
 
 -- start i, and the pointer r that its rules came to, with b its best
 pub record ChoiceAsk (l : PageLimits) (i : ℕ) (S : List ℕ) (r b : ℕ) : Type 0 where
-  pub held : Holds l S
+  pub held : Holds (pageLimitsHold l) S
   pub above : i < r
   pub within : r ≤ length S
   pub is : b ≡ bestEntry (Index.best l (wordsOf S) r)
@@ -71,7 +73,7 @@ pub record SettleAsk (l : PageLimits) (i : ℕ) (S B N : List ℕ) (r : ℕ) : T
 
 -- what stands before start i, and room for its moves
 pub record StartAsk (l : PageLimits) (i : ℕ) (S B N : List ℕ) (s : Pointing) (room : ℕ) : Type 0 where
-  pub held : Holds l S
+  pub held : Holds (pageLimitsHold l) S
   pub low : i < length S
   pub ready : Ready l (wordsOf S) i s
   pub bests : Bests l (wordsOf S) B (suc i)

@@ -12,7 +12,7 @@ ghost use lib.ListN.{length};
 ghost use Rattle.paper.specs.Index.{gap as isGap, item};
 ghost use Rattle.paper.specs.PointerRules.{steps as isSteps, jumps as isJumps, pointed, chooser};
 ghost use Rattle.strips.specs.Running.{Ran};
-ghost use Rattle.pointer.specs.Held.{wordsOf};
+ghost use Rattle.strips.specs.Words.{wordsOf};
 ghost use Rattle.pointer.specs.Asks.{pagesIn, GapAsk, StepsAsk, JumpsAsk, LinksAsk, ChoiceAsk, SettleAsk, StartAsk, OwnAsk, Joined, Joins, Settled, Started};
 
 // The index that a rule came to, and the moves taken.

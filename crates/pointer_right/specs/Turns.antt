@@ -10,7 +10,7 @@ use native.Mathlib.Omega.{arith}
 use lib.Dec.{leb, ltb, leb·zero}
 use lib.ListN.{length, set}
 use borrow.Author.Tests.{lt-ltb, le-ltb, le-leb, lt-leb, ltb-true}
-use Rattle.laws.specs.Number.{split, tested}
+use Rattle.laws.specs.Number.{split, tested, when-true, when-false}
 use Rattle.laws.specs.Cost.{Cost, none, some, leq}
 use Rattle.laws.specs.Table as Table
 use Rattle.paper.specs.declared.PageLimits.{PageLimits}
@@ -25,13 +25,6 @@ use Rattle.paper.specs.PointerRules.{pagesOf, entryAt, steps, jumps, Linked, li
 pub gap-nought : (ws : List ℕ) (i r : ℕ) → r ≤ suc i → gap ws i r ≡ 0
 unfolding gap sum
 gap-nought ws i r h = let e : r - i - 1 ≡ 0 = omega arith in rw e
-
--- a choice by a test that held, and by one that failed
-held : {A : Type 0} {b : Bool} (x y : A) → b ≡ true → elim b [ true ↦ x | false ↦ y ] ≡ x
-held x y e = rw e
-
-failed : {A : Type 0} {b : Bool} (x y : A) → b ≡ false → elim b [ true ↦ x | false ↦ y ] ≡ y
-failed x y e = rw e
 
 pub true-not-false : true ≡ false → ⊥
 true-not-false e = let z : _≡_ {A = ℕ} 0 1 = cc in omega arith
@@ -55,12 +48,12 @@ module _ (l : PageLimits) (ws : List ℕ) (i : ℕ) where
   steps-more zero pos h = absurd (omega arith)
   steps-more (suc r) pos h =
       let e : suc r - 1 ≡ r = omega arith in
-      rw e (held _ _ (lt-ltb (l .lmax) (gap ws i (suc r)) h))
+      rw e (when-true _ _ _ (lt-ltb (l .lmax) (gap ws i (suc r)) h))
 
   pub steps-stop : (r : ℕ) → gap ws i r ≤ l .lmax → steps (pagesOf l ws) i r ≡ still r
   unfolding steps pagesOf
   steps-stop zero h = refl
-  steps-stop (suc r) h = failed _ _ (le-ltb (l .lmax) (gap ws i (suc r)) h)
+  steps-stop (suc r) h = when-false _ _ _ (le-ltb (l .lmax) (gap ws i (suc r)) h)
 
   -- what holds where the steps stop, and is kept by a step, holds of all of them
   pub steps-by : (P : ℕ → Taken ℕ → Type 0) → ((r : ℕ) → gap ws i r ≤ l .lmax → P r (still r)) →
@@ -84,7 +77,7 @@ module _ (l : PageLimits) (ws : List ℕ) (i : ℕ) where
     pub jumps-stop : (d r : ℕ) → (0 < entryAt left r → gap ws i (entryAt left r) < l .lmin) → jumps (pagesOf l ws) i left d r ≡ still r
     unfolding jumps pagesOf
     jumps-stop zero r h = refl
-    jumps-stop (suc d) r h = failed _ _ (go (ltb 0 (entryAt left r)) refl)
+    jumps-stop (suc d) r h = when-false _ _ _ (go (ltb 0 (entryAt left r)) refl)
       where
         go : (b : Bool) → ltb 0 (entryAt left r) ≡ b → b && leb (l .lmin) (gap ws i (entryAt left r)) ≡ false
         go true e = lt-leb (l .lmin) (gap ws i (entryAt left r)) (h (ltb-true 0 (entryAt left r) e))
@@ -94,7 +87,7 @@ module _ (l : PageLimits) (ws : List ℕ) (i : ℕ) where
     jump : (d r : ℕ) → 0 < entryAt left r → l .lmin ≤ gap ws i (entryAt left r) →
         jumps (pagesOf l ws) i left (suc d) r ≡ moved (move Jump (entryAt left r)) (jumps (pagesOf l ws) i left d (entryAt left r))
     unfolding jumps pagesOf
-    jump d r h g = held _ _ holds
+    jump d r h g = when-true _ _ _ holds
       where
         holds : ltb 0 (entryAt left r) && leb (l .lmin) (gap ws i (entryAt left r)) ≡ true
         holds = rw (lt-ltb 0 (entryAt left r) h) (le-leb (l .lmin) (gap ws i (entryAt left r)) g)
@@ -160,13 +153,13 @@ module _ (l : PageLimits) (ws : List ℕ) (i : ℕ) where
         links (pagesOf l ws) i right d k left ≡ still (record { reached = k; left = left })
     unfolding links pagesOf
     links-stop zero k left h = refl
-    links-stop (suc d) k left h = held _ _ h
+    links-stop (suc d) k left h = when-true _ _ _ h
 
     -- the test holds, with one more turn left
     link : (d k : ℕ) (left : List ℕ) → leq (Index.best l ws k) (Index.best l ws i) ≡ false →
         links (pagesOf l ws) i right (suc d) k left ≡ moved (move Link k) (links (pagesOf l ws) i right d (entryAt right k) (set left k i))
     unfolding links pagesOf
-    link d k left h = failed _ _ h
+    link d k left h = when-false _ _ _ h
 
     at-end : (k : ℕ) → k ≡ length ws + 1 → leq (Index.best l ws k) (Index.best l ws i) ≡ true
     at-end k e = rw e (links-end l ws i)

@@ -1,27 +1,21 @@
 -- A candidate is passed, or added; and the candidates one after the other. Assumes nothing.
-use Prim.Native.Nat.{ℕ, _+_, _-_, _*_, _^_, _≤_, _<_}
-use mathlib.Core.Path.{_≡_, refl, ap, sym, subst, _∙_}
+use Prim.Native.Nat.{ℕ, _-_, _^_, _≤_, _<_}
+use mathlib.Core.Path.{_≡_, refl, ap, sym, _∙_}
 use mathlib.Core.Logic.{⊎-elim}
-use mathlib.Core.List.{List, [], _∷_}
+use mathlib.Core.List.{List}
 use native.Mathlib.Omega.{arith}
 use borrow.Author.Tests.{eq-eqb}
-use borrow.Rule.Slice.PartMut.{putMid}
-use lib.ListN.{length, getD, take, drop}
-use lib.Seq.{slice, length-slice}
+use lib.ListN.{length, getD}
+use lib.Seq.{slice}
 use Rattle.laws.specs.Number.{split}
-use Rattle.laws.specs.Cost.{Cost, none, some, Has}
-use Rattle.laws.specs.Members.{Every, every-map, Falls}
 use Rattle.paper.specs.declared.Limits.{Limits}
 use Rattle.paper.specs.declared.Kind.the-variants.{Pass}
-use Rattle.paper.specs.Moves.{Taken, move, moved, still, joined}
-use Rattle.paper.specs.QueueRules.{Text, Standing, add, consider, candidates}
-use Rattle.queue_right.specs.Turns.{consider-long, consider-none, consider-add, consider-gives, candidates-more, candidates-stop}
-use Rattle.queue_right.specs.Ready.{add-every, add-falls}
-use Rattle.queue_right.specs.Count.{consider-count}
+use Rattle.paper.specs.Moves.{Taken, move, moved, still}
+use Rattle.paper.specs.QueueRules.{add, consider}
+use Rattle.queue_right.specs.Turns.{consider-long, consider-none, consider-add}
 use Rattle.lines.specs.Held.{span, costOf, textIn, cost-number}
-use Rattle.strips.specs.Running.{Running, Ran, running-first, running-same, running-part, running-done, running-length, written}
-use Rattle.queue.specs.declared.Queue.{Queue}
-use Rattle.queue.specs.Asks.{Words, Member, Bests, Queued, AddAsks, ConsiderAsks, CandidatesAsks, Passes, Added, Left, Considered}
+use Rattle.strips.specs.Running.{written}
+use Rattle.queue.specs.Asks.{Member, AddAsks, ConsiderAsks, Passes, Added}
 
 -- a candidate that is considered is above the start
 reaches : (S : List ℕ) (i j lmin : ℕ) → 1 ≤ lmin → lmin ≤ span S i j → i ≤ j → i < j

@@ -1,7 +1,6 @@
 -- The candidates, one after the other. Assumes nothing.
 use Prim.Native.Nat.{ℕ, _+_, _-_, _*_, _^_, _≤_, _<_}
-use mathlib.Core.Path.{_≡_, refl, ap, sym, subst, _∙_}
-use mathlib.Core.Logic.{⊎-elim}
+use mathlib.Core.Path.{_≡_, refl, ap, subst, _∙_}
 use mathlib.Core.List.{List}
 use native.Mathlib.Omega.{arith}
 use borrow.Author.Tests.{eq-eqb}
@@ -12,14 +11,13 @@ use Rattle.laws.specs.Cost.{Has}
 use Rattle.laws.specs.Members.{Every, every-map, Falls}
 use Rattle.paper.specs.declared.Limits.{Limits}
 use Rattle.paper.specs.Moves.{Taken, joined}
-use Rattle.paper.specs.QueueRules.{Text, Standing, consider, candidates}
+use Rattle.paper.specs.QueueRules.{Standing, consider, candidates}
 use Rattle.queue_right.specs.Turns.{consider-gives, candidates-more, candidates-stop}
 use Rattle.queue_right.specs.Ready.{add-every, add-falls}
 use Rattle.queue_right.specs.Count.{consider-count}
 use Rattle.lines.specs.Held.{span, costOf, textIn}
 use Rattle.strips.specs.Running.{Running, running-first, running-same, running-part, running-done, running-room}
-use Rattle.queue.specs.declared.Queue.{Queue}
-use Rattle.queue.specs.Asks.{Words, Member, Bests, Queued, ConsiderAsks, CandidatesAsks, Added, Considered}
+use Rattle.queue.specs.Asks.{Member, Queued, ConsiderAsks, CandidatesAsks, Added, Considered}
 use Rattle.queue.proofs.Considering.{above, considering-new}
 
 -- at the candidate j the queue ends at place r of the strip Q

@@ -1,6 +1,6 @@
 -- The three rules of a start, one after the other. Assumes nothing.
-use Prim.Native.Nat.{ℕ, _+_, _-_, _*_, _≤_, _<_}
-use mathlib.Core.Path.{_≡_, refl, ap, sym, subst, _∙_}
+use Prim.Native.Nat.{ℕ, _+_, _-_, _≤_, _<_}
+use mathlib.Core.Path.{_≡_, ap, subst, _∙_}
 use mathlib.Core.Logic.{⊎-elim}
 use mathlib.Core.List.{List, [], _∷_}
 use native.Mathlib.Omega.{arith}
@@ -20,7 +20,7 @@ use Rattle.lines.specs.Held.{span, textIn}
 use Rattle.lines.specs.Asks.{Rising}
 use Rattle.strips.specs.Running.{Running, running-rule, running-part, running-done, running-length, running-room, joined-assoc}
 use Rattle.queue.specs.declared.Queue.{Queue}
-use Rattle.queue.specs.Asks.{Words, Break, Member, Queued, DropLongAsks, DropWorseAsks, CandidatesAsks, StartAsks, Dropped, Considered, Left}
+use Rattle.queue.specs.Asks.{Member, Queued, DropLongAsks, DropWorseAsks, CandidatesAsks, StartAsks, Dropped, Considered, Left}
 
 module _ (l : Limits) (S B : List ℕ) (i : ℕ) (rising : Rising S) (first : 1 ≤ i) where
   -- who is inside the measure at the start before, and no farther than one that is inside at i, is inside at i

@@ -1,10 +1,10 @@
 -- One turn of each rule's loop on the text that the strips hold, in the values that the code has at hand. The queue stands in the
 -- strip Q from place f up to place e. Assumes nothing.
 use Prim.Native.Nat.{ℕ, _+_, _-_, _≤_, _<_}
-use mathlib.Core.Path.{_≡_, refl, ap, sym, subst, _∙_}
+use mathlib.Core.Path.{_≡_, ap, sym, _∙_}
 use mathlib.Core.Logic.{⊎-elim}
 use mathlib.Core.Bool.{Bool, true, false}
-use mathlib.Core.List.{List, [], _∷_, reverse}
+use mathlib.Core.List.{List, _∷_, reverse}
 use native.Mathlib.Omega.{arith}
 use lib.ListN.{length, getD, set}
 use lib.Seq.{slice}

@@ -7,7 +7,7 @@ use mathlib.Core.List.{List, [], _∷_, reverse}
 use native.Mathlib.Omega.{arith}
 use Rattle.laws.specs.Number.{split, tested}
 use Rattle.laws.specs.Cost.{Cost, Has}
-use Rattle.laws.specs.Members.{Every, every-map, every-reverse, Rises, pairs-reverse}
+use Rattle.laws.specs.Members.{Every, every-reverse, Rises, pairs-reverse}
 use Rattle.paper.specs.declared.Limits.{Limits}
 use Rattle.paper.specs.declared.Kind.the-variants.{Drop, Pop}
 use Rattle.paper.specs.Moves.{Taken, move, still, moved, joined}

@@ -4,7 +4,7 @@ use paper::Limits;
 use paper::PageLimits;
 use paper::Refusal;
 ghost use mathlib.Core.Path.{_≡_};
-ghost use Prim.Native.Nat.{ℕ, _≤_, _+_};
+ghost use Prim.Native.Nat.{_≤_, _+_};
 ghost use lib.ListN.{length};
 ghost use Rattle.paper.specs.Allowed.{lengthHolds, limitsHold, pageLimitsHold};
 ghost use Rattle.paper.specs.Told.{firstFailing, firstShort, checked};

@@ -1,11 +1,10 @@
 -- The promises are kept: a refusal found is the outcome, and what passes the checks is set. Assumes nothing.
-use Prim.Native.Nat.{ℕ, _+_, _*_, _≤_, _<_}
+use Prim.Native.Nat.{ℕ, _≤_, _<_}
 use mathlib.Core.Path.{_≡_, refl, ap, sym, _∙_}
 use mathlib.Core.Bool.{Bool, true, false, not}
-use mathlib.Core.List.{List, [], _∷_}
+use mathlib.Core.List.{List}
 use native.Mathlib.Omega.{arith}
 use borrow.Author.Tests.{lt-ltb, le-ltb, not-true, not-false}
-use lib.Dec.{T}
 use lib.ListN.{length}
 use Rattle.paper.specs.declared.Limits.{Limits}
 use Rattle.paper.specs.declared.PageLimits.{PageLimits}
@@ -64,7 +63,10 @@ module _ (l : PageLimits) (ws : List ℕ) (s : IndexStrips) (hold : Bool) (h : h
         let r5 = room-here _ _ _ _ 5 (omega arith) (r4 .1) in
         let r6 = room-here _ _ _ _ 6 (omega arith) (r5 .1) in
         let r7 = room-here _ _ _ _ 7 (omega arith) (r6 .1) in
-        record { passed = rw h at (a .passed); sums = r1 .0; best = r2 .0; next = r3 .0; left = r4 .0; right = r5 .0; moves = r6 .0; boundaries = r7 .0 }
+        record {
+          fill = record { passed = rw h at (a .passed); sums = r1 .0; best = r2 .0; next = r3 .0; left = r4 .0; right = r5 .0; moves = r6 .0 };
+          boundaries = r7 .0;
+        }
 
     pub index-kept : (r : Answer) (t : IndexStrips) → Paged l ws s r t → IndexPromise (indexOutcome l ws s) r t
     unfolding indexOutcome indexChecked

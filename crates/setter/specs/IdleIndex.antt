@@ -56,7 +56,7 @@ refuses-everything r exit p = let e : Refused r ≡ Set 2 1 3 = p .answered ∙ 
 pub same-boundaries : (a b : Answer) (x y : IndexStrips) → x .boundaries ≡ y .boundaries → IndexPromise G1 a x → ¬ IndexPromise G3 b y
 same-boundaries a b x y e p q =
     let f : _≡_ {A = List ℕ} (3 ∷ 7 ∷ 7 ∷ 7 ∷ []) (1 ∷ 7 ∷ 7 ∷ 7 ∷ []) =
-        sym (ap (λ (s : IndexStrips). s .boundaries) (p .strips ∙ strips-G1)) ∙ e ∙ ap (λ (s : IndexStrips). s .boundaries) (q .strips) ∙ boundaries-G3 in
+    sym (ap (λ (s : IndexStrips). s .boundaries) (p .strips ∙ strips-G1)) ∙ e ∙ ap (λ (s : IndexStrips). s .boundaries) (q .strips) ∙ boundaries-G3 in
     let z : _≡_ {A = ℕ} 3 1 = ap (λ (l : List ℕ). getD l 0 0) f in
     omega arith
 

@@ -1,7 +1,7 @@
 -- One turn of the loops that write the sums and zeros. Assumes nothing.
-use Prim.Native.Nat.{ℕ, suc, _+_, _*_, _≤_, _<_}
+use Prim.Native.Nat.{ℕ, _+_, _*_, _≤_, _<_}
 use mathlib.Core.Path.{_≡_, refl, ap, sym, _∙_}
-use mathlib.Core.List.{List, [], _∷_, _++_}
+use mathlib.Core.List.{List, [], _∷_}
 use native.Mathlib.Numerals.{add-one}
 use native.Mathlib.Omega.{arith}
 use lib.Dec.{T}
@@ -10,7 +10,7 @@ use lib.Seq.{drop-set-lt}
 use Rattle.laws.specs.Number.{all}
 use Rattle.laws.specs.Strip.{over, over-set}
 use Rattle.paper.specs.Allowed.{lengthHolds}
-use Rattle.paper.specs.Scale.{upTo, upTo-zero, upTo-suc, upTo-bound, length-holds}
+use Rattle.paper.specs.Scale.{upTo, upTo-zero, upTo-suc, upTo-bound}
 use Rattle.paper.specs.Strips.{entries, sums}
 use Rattle.paper.specs.Entries.{length-entries, entries-more}
 

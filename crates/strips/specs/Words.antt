@@ -1,6 +1,6 @@
 -- The text that a sums strip holds. Assumes nothing.
 use Prim.Native.Nat.{ℕ, suc, _+_, _-_, _≤_, _<_}
-use mathlib.Core.Path.{_≡_, refl, ap, sym, _∙_}
+use mathlib.Core.Path.{_≡_, ap, sym, _∙_}
 use mathlib.Core.Bool.{Bool}
 use mathlib.Core.List.{List}
 use native.Mathlib.Omega.{arith}
@@ -23,6 +23,9 @@ pub record Holds (hold : Bool) (S : List ℕ) : Type 0 where
 pub length-sums : (ws : List ℕ) → length (sums ws) ≡ length ws + 1
 unfolding sums
 length-sums ws = length-entries _ 0 (length ws + 1)
+
+pub sums-size : (S ws : List ℕ) → S ≡ sums ws → length S ≡ length ws + 1
+sums-size S ws is = ap length is ∙ length-sums ws
 
 pub getD-sums : (ws : List ℕ) (k : ℕ) → k ≤ length ws → getD (sums ws) k 0 ≡ upTo ws k
 unfolding sums upTo

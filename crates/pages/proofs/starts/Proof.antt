@@ -2,7 +2,7 @@
 use borrow.Author.Needs.{needs}
 use native.Mathlib.Omega.{arith}
 use mathlib.Core.Path.{refl}
-use Rattle.pointer.specs.Held.{wordsOf, sums-size}
+use Rattle.strips.specs.Words.{wordsOf, sums-size}
 use Rattle.pages.proofs.Going.{Going, going-first, starts-room, going-length, going-ready, going-ask, going-room, going-next, going-done}
 use Rattle.pages.proofs.starts.Statement.{statement}
 use Rattle.pages.proofs.starts.Tie as tie

@@ -1,6 +1,6 @@
 -- `pointer::chooses` meets its contract. Assumes nothing.
 use native.Mathlib.Omega.{arith}
-use Rattle.pointer.specs.Held.{sums-size}
+use Rattle.strips.specs.Words.{sums-size}
 use Rattle.pointer.proofs.Settles.{choose-near, choose-far, choose-has}
 use borrow.Author.Needs.{needs}
 use Rattle.pointer.proofs.chooses.Statement.{statement}

@@ -2,7 +2,7 @@
 use borrow.Author.Needs.{needs}
 use native.Mathlib.Omega.{arith}
 use Rattle.strips.specs.Running.{running-length}
-use Rattle.pointer.specs.Held.{wordsOf, sums-size}
+use Rattle.strips.specs.Words.{wordsOf, sums-size}
 use Rattle.pointer.proofs.Lowers.{Lowering, lowering-first, jumping, jump-between, jump-place, jump-on, jump-none, jump-near}
 use Rattle.pointer.proofs.jumps.Statement.{statement}
 use Rattle.pointer.proofs.jumps.Tie as tie

@@ -1,6 +1,6 @@
 -- `pointer::settle` meets its contract. Assumes nothing.
 use native.Mathlib.Omega.{arith}
-use Rattle.pointer.specs.Held.{sums-size}
+use Rattle.strips.specs.Words.{sums-size}
 use Rattle.pointer.proofs.Settles.{settle-none, settle-some, settle-small}
 use borrow.Author.Needs.{needs}
 use Rattle.pointer.proofs.settle.Statement.{statement}

@@ -3,7 +3,7 @@ use native.Mathlib.Omega.{arith}
 use Rattle.paper.specs.PointerRules.{steps}
 use Rattle.strips.specs.Running.{running-length}
 use Rattle.pointer.specs.Asks.{pagesIn}
-use Rattle.pointer.specs.Held.{sums-size}
+use Rattle.strips.specs.Words.{sums-size}
 use Rattle.pointer.proofs.Lowers.{Lowering, lowering-first, step-place, step-on, step-stop}
 use Rattle.pointer.proofs.steps.Statement.{statement}
 use Rattle.pointer.proofs.steps.Tie as tie

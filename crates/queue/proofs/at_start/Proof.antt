@@ -1,6 +1,5 @@
 -- `queue::at_start` meets its contract. Assumes nothing.
 use native.Mathlib.Omega.{arith}
-use mathlib.Core.Path.{_∙_}
 use denote.Ref.{now}
 use Rattle.queue.proofs.Starting.{starting-long, starting-candidates, starting-enough, starting-length, starting-worse, starting-done}
 use borrow.Author.Needs.{needs}

@@ -1,8 +1,6 @@
 -- `queue::candidates` meets its contract. Assumes nothing.
 use native.Mathlib.Omega.{arith}
 use borrow.Author.Needs.{needs}
-use Prim.Native.Nat.{ℕ}
-use mathlib.Core.Path.{refl}
 use Rattle.strips.specs.Running.{running-length}
 use Rattle.queue.proofs.Going.{Going, past, going-first, going-asks, going-more, going-done}
 use Rattle.queue.proofs.candidates.Statement.{statement}

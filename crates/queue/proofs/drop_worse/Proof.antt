@@ -1,7 +1,7 @@
 -- `queue::drop_worse` meets its contract. Assumes nothing.
 use native.Mathlib.Omega.{arith}
 use borrow.Author.Needs.{needs}
-use Prim.Native.Nat.{ℕ, _-_, _+_}
+use Prim.Native.Nat.{_-_}
 use Rattle.paper.specs.QueueRules.{dropWorse}
 use Rattle.lines.specs.Held.{textIn}
 use Rattle.strips.specs.Running.{running-length}

@@ -1,5 +1,4 @@
 -- `queue::pass` meets its contract. Assumes nothing.
-use mathlib.Core.Path.{refl}
 use Rattle.queue.proofs.Passing.{passes}
 use borrow.Author.Needs.{needs}
 use Rattle.queue.proofs.pass.Statement.{statement}

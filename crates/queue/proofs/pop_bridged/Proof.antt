@@ -1,14 +1,10 @@
 -- `queue::pop_bridged` meets its contract. Assumes nothing.
 use native.Mathlib.Omega.{arith}
 use borrow.Author.Needs.{needs}
-use Prim.Native.Nat.{ℕ, _-_, _+_}
-use mathlib.Core.Path.{_≡_, refl, sym, subst}
+use mathlib.Core.Path.{refl}
 use borrow.Author.Tests.{not-true, not-false}
-use denote.Ref.{now}
-use lib.ListN.{getD}
 use Rattle.paper.specs.QueueRules.{popBridged}
 use Rattle.lines.specs.Held.{textIn}
-use Rattle.lines.specs.Asks.{Three}
 use Rattle.strips.specs.Running.{running-length}
 use Rattle.queue.proofs.Ends.{Reared, reared-first}
 use Rattle.queue.proofs.Members.{rear-three}
