@@ -1,3 +1,5 @@
 pub mod Passes
 pub mod Parts
 pub mod Lining
+pub mod Settings
+pub mod Paragraphs

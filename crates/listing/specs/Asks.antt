@@ -9,7 +9,7 @@ use Rattle.paper.specs.Paragraph.{end}
 use Rattle.paper.specs.Strips.{sums}
 use Rattle.rows.specs.Puts.{Fits}
 use Rattle.listing.specs.declared.refusal.Reason.{Reason}
-use Rattle.listing.specs.Listing.{lineRow, lineRows}
+use Rattle.listing.specs.Listing.{lineRow, lineRows, paragraphRows}
 
 -- a refusal's number and place
 pub record Tells (number place : ℕ) (r : Reason) : Type 0 where
@@ -41,3 +41,8 @@ pub record LinesAsk (l : Limits) (ws S js : List ℕ) (at : ℕ) : Type 0 where
   pub text : Text l ws S
   pub starts : Starts ws js
   pub room : Fits at (lineRows l ws js)
+
+pub record RowsAsk (l : Limits) (ws S js : List ℕ) (total moves : ℕ) : Type 0 where
+  pub text : Text l ws S
+  pub starts : Starts ws js
+  pub room : Fits 0 (paragraphRows l ws js total moves)
