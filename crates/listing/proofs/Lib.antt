@@ -3,3 +3,4 @@ pub mod Parts
 pub mod Lining
 pub mod Settings
 pub mod Paragraphs
+pub mod Paging

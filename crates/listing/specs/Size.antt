@@ -8,18 +8,24 @@ use lib.Dec.{T, leb, eqb, leb→le}
 use lib.ListN.{length, getD, length-append}
 use Rattle.laws.specs.Number.{if, both}
 use Rattle.laws.specs.Cost.{some}
-use Rattle.laws.specs.Setting.{Problem, Choice, Admissible}
+use Rattle.laws.specs.Setting.{Problem, Choice, Admissible, admissible-early}
 use Rattle.paper.specs.declared.Limits.{Limits}
-use Rattle.paper.specs.Allowed.{limitsHold, Passed, Ranges, ranges}
+use Rattle.paper.specs.declared.PageLimits.{PageLimits}
+use Rattle.paper.specs.Allowed.{limitsHold, pageLimitsHold, Passed, Ranges, ranges}
 use Rattle.paper.specs.Paragraph.{end, line, admissible, penalty, charge, paragraph, best, breaks}
-use Rattle.paper.specs.Bound.{penalty-bound, paragraph-bound}
+use Rattle.paper.specs.Index as Index
+use Rattle.paper.specs.Index.{item, index, boundaries}
+use Rattle.paper.specs.Scale.{length-holds}
+use Rattle.paper.specs.Bound.{penalty-bound, paragraph-bound, index-bound}
 use Rattle.paper.specs.QueueRules.{queueMoves}
-use Rattle.paper.specs.Right.{paragraph-right}
+use Rattle.paper.specs.PointerRules.{pointerMoves}
+use Rattle.paper.specs.Right.{paragraph-right, index-right}
 use Rattle.queue_right.specs.Count.{at-most-2n}
+use Rattle.pointer_right.specs.Count.{pointer-count}
 use Rattle.rows.specs.Rows.{ascii, digits, row}
 use Rattle.rows.specs.Digits.{digits-width}
 use Rattle.rows.specs.Size.{row-one, row-two}
-use Rattle.listing.specs.Listing.{headed, around, lineRow, lineRows, paragraphRows}
+use Rattle.listing.specs.Listing.{headed, around, lineRow, lineRows, paragraphRows, boundaryRow, boundaryRows, indexRows}
 
 abbrev pub mostBytes : ℕ
 mostBytes = 81979
@@ -95,3 +101,36 @@ module _ (l : Limits) (ws : List ℕ) (passed : Passed (limitsHold l) ws) where
       (omega (arith, passed .few, lines-size 1 (right .0) a,
       around-size (ascii "paragraph") (ascii "penalty") (ascii "lines") (lineRows l ws (1 ∷ right .0)) (length ws) total (length (1 ∷ right .0)) (length (queueMoves l ws))
       (passed .few) (paragraph-bound l r ws (passed .few) 1 total (omega arith) (omega arith) e) (omega (arith, passed .few)) (omega (arith, at-most-2n l ws passed, passed .few))))
+
+-- ---- the index
+no-boundary : (ws : List ℕ) → length (boundaryRows ws []) ≡ 0
+unfolding boundaryRows
+no-boundary ws = refl
+
+one-boundary : (ws : List ℕ) (b : ℕ) (bs : List ℕ) → length (boundaryRows ws (b ∷ bs)) ≡ length (boundaryRow ws b) + length (boundaryRows ws bs)
+unfolding boundaryRows
+one-boundary ws b bs = length-append (boundaryRow ws b) (boundaryRows ws bs)
+
+module _ (l : PageLimits) (ws : List ℕ) (passed : Passed (pageLimitsHold l) ws) where
+  boundary-size : (b : ℕ) → b < end ws → length (boundaryRow ws b) ≤ 20
+  unfolding boundaryRow item
+  boundary-size b h = omega (arith, row-one (digits b) (item ws b), wide4 b (omega (arith, passed .few)), wide4 (item ws b) (small b h))
+    where
+      small : (b : ℕ) → b < end ws → getD (0 ∷ ws) b 0 < 10 ^ 4
+      small zero h = omega arith
+      small (suc k) h = omega (arith, length-holds ws (passed .lengths) k (omega arith) .1)
+
+  boundaries-size : (i : ℕ) (js : List ℕ) → Admissible (index l ws) i js → length (boundaryRows ws js) ≤ 20 * length js
+  unfolding index
+  boundaries-size i [] h = omega (arith, no-boundary ws)
+  boundaries-size i (j ∷ js) h = omega (arith, one-boundary ws j js, boundary-size j (admissible-early (index l ws) j js (h .1)), boundaries-size j js (h .1))
+
+  pub index-size : (total : ℕ) → Index.best l ws 0 ≡ some total → length (indexRows ws (boundaries l ws) total (length (pointerMoves l ws))) ≤ mostBytes
+  unfolding indexRows index
+  index-size total e =
+      let a : Admissible (index l ws) 0 (boundaries l ws) = index-right l ws total e .1 .admissible in
+      let n : 0 + length (boundaries l ws) < end ws = setting-count (index l ws) 0 (boundaries l ws) a in
+      let t : total < 2 ^ 25 = index-bound l ws (passed .lengths) (passed .few) 0 total (omega arith) e in
+      omega (arith, passed .few, boundaries-size 0 (boundaries l ws) a,
+      around-size (ascii "index") (ascii "keys") (ascii "boundaries") (boundaryRows ws (boundaries l ws)) (length ws) total (length (boundaries l ws)) (length (pointerMoves l ws))
+      (passed .few) (omega arith) (omega (arith, passed .few)) (omega (arith, pointer-count l ws, passed .few)))
