@@ -4,3 +4,4 @@ pub mod Lining
 pub mod Settings
 pub mod Paragraphs
 pub mod Paging
+pub mod Pages

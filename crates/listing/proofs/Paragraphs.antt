@@ -4,8 +4,7 @@ use mathlib.Core.Path.{_≡_, refl, ap, sym, subst, _∙_}
 use mathlib.Core.List.{List, [], _∷_}
 use native.Mathlib.Numerals.{add-one}
 use native.Mathlib.Omega.{arith}
-use lib.ListN.{length, getD, take, drop, replicate, length-replicate}
-use lib.Seq.{take-at}
+use lib.ListN.{length, getD, take, replicate, length-replicate}
 use Rattle.laws.specs.Strip.{over, length-over}
 use Rattle.laws.specs.Setting.{Admissible}
 use Rattle.paper.specs.declared.Limits.{Limits}
@@ -25,7 +24,7 @@ use Rattle.listing.specs.Listing.{refused, paragraphRows, paragraphListi
 use Rattle.listing.specs.Promise.{Promise, outcome}
 use Rattle.listing.specs.Size.{mostBytes, setting-count, paragraph-size}
 use Rattle.listing.specs.Asks.{Tells, Line, Starts, RowsAsk}
-use Rattle.listing.proofs.Settings.{Unset, Lent, ParagraphGiven, paragraph-unset, paragraph-given}
+use Rattle.listing.proofs.Settings.{Unset, Lent, front-is, ParagraphGiven, paragraph-unset, paragraph-given}
 
 -- ---- the starts of an admissible setting, each with the next
 module _ (l : Limits) (ws : List ℕ) where
@@ -44,10 +43,6 @@ zeros =
     let b : length {A = ℕ} (replicate 4096 0) ≡ 4096 = length-replicate {A = ℕ} 4096 0 in
     let c : length {A = ℕ} (replicate 8192 0) ≡ 8192 = length-replicate {A = ℕ} 8192 0 in
     record { sums = omega arith; best = omega arith; next = omega arith; queue = omega arith; moves = omega arith; breaks = omega arith }
-
-front-is : (xs s t : List ℕ) (k : ℕ) → t ≡ over xs s → length xs ≡ k → take k t ≡ xs
-unfolding over
-front-is xs s t k e h = ap (take k) e ∙ take-at xs (drop (length xs) s) k h
 
 module _ (l : Limits) (ws : List ℕ) (s : ParagraphStrips) (lent : Lent s) (a : Answer) (t : ParagraphStrips) (p : ParagraphPromise (paragraphOutcome l ws s) a t) where
   -- ---- no setting

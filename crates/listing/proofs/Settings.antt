@@ -9,7 +9,8 @@ use borrow.Author.Tests.{lt-ltb, le-leb}
 use denote.Enum.Declared.{tagOf}
 use types.Run.{OneOf}
 use lib.Dec.{leb}
-use lib.ListN.{length}
+use lib.ListN.{length, take, drop}
+use lib.Seq.{take-at}
 use Rattle.laws.specs.Number.{split, when-true}
 use Rattle.laws.specs.Cost.{Cost, none, some}
 use Rattle.laws.specs.Strip.{over}
@@ -30,7 +31,7 @@ use Rattle.listing.specs.Listing as Listing
 use Rattle.listing.specs.Listing.{refused, refusal, paragraphRows, paragraphListing}
 
 -- Where no strip is too short for a text that is not MANY, the checks are those of 1 to 4.
-all-long : (hold : Bool) (ws has needs : List ℕ) → (length ws ≤ mostWords → firstShort 1 has needs ≡ 0) → checked hold ws has needs ≡ checked hold ws [] []
+pub all-long : (hold : Bool) (ws has needs : List ℕ) → (length ws ≤ mostWords → firstShort 1 has needs ≡ 0) → checked hold ws has needs ≡ checked hold ws [] []
 unfolding checked firstShort
 all-long hold ws has needs room =
     ⊎-elim
@@ -39,12 +40,12 @@ all-long hold ws has needs room =
     (split (length ws) mostWords)
 
 -- each strip has what it needs
-abbrev Roomy : List ℕ → List ℕ → Type 0
+abbrev pub Roomy : List ℕ → List ℕ → Type 0
 Roomy [] ns = Unit {0}
 Roomy (h ∷ hs) [] = Unit {0}
 Roomy (h ∷ hs) (n ∷ ns) = (n ≤ h) × Roomy hs ns
 
-roomy : (k : ℕ) (has needs : List ℕ) → Roomy has needs → firstShort k has needs ≡ 0
+pub roomy : (k : ℕ) (has needs : List ℕ) → Roomy has needs → firstShort k has needs ≡ 0
 unfolding firstShort
 roomy k [] ns r = refl
 roomy k (h ∷ hs) [] r = refl
@@ -54,8 +55,13 @@ roomy k (h ∷ hs) (n ∷ ns) r = when-true (leb n h) _ _ (le-leb n h (r .0)) �
 abbrev pub Unset : Answer → Type 0
 Unset a = OneOf (1 ∷ 2 ∷ []) (tagOf the-type a)
 
-set-not : (total lines moves : ℕ) → Unset (Set total lines moves) → ⊥
+pub set-not : (total lines moves : ℕ) → Unset (Set total lines moves) → ⊥
 set-not total lines moves h = ⊎-elim (λ e. omega arith) (λ e. omega arith) h
+
+-- what stands at the front of a strip that was written
+pub front-is : (xs s t : List ℕ) (k : ℕ) → t ≡ over xs s → length xs ≡ k → take k t ≡ xs
+unfolding over
+front-is xs s t k e h = ap (take k) e ∙ take-at xs (drop (length xs) s) k h
 
 -- ---- the paragraph
 pub record Lent (s : ParagraphStrips) : Type 0 where
