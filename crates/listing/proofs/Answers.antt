@@ -40,7 +40,7 @@ module _ (job s : List ℕ) (size : length s ≡ mostWords) (r : Job) (t : List 
   unfolding listingOf readOutcome
   list-refused q e why tells o {x} {u} h =
       let f : listed (reading job mostWords) ≡ refused (toldJob (Refused q) .number) (toldJob (Refused q) .place)
-        = rw (← size) (refused-by (reading job (length s)) s q (sym e ∙ p .answered)) in
+      = rw (← size) (refused-by (reading job (length s)) s q (sym e ∙ p .answered)) in
       let n : toldJob (Refused q) .number ≡ why .number = ap (λ (j : Job). toldJob j .number) (sym e) ∙ sym (tells .is-number) in
       let m : toldJob (Refused q) .place ≡ why .place = ap (λ (j : Job). toldJob j .place) (sym e) ∙ sym (tells .is-place) in
       rw (f, n, m) h

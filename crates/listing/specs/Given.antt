@@ -20,6 +20,7 @@ use Rattle.paper.specs.PointerRules.{pointerMoves}
 use Rattle.paper.specs.Told.{checked}
 use Rattle.job.specs.declared.Asked.the-variants.{Paragraph as AskedParagraph, Index as AskedIndex}
 use Rattle.job.specs.Reader.{refuse, accept, reading}
+use Rattle.job.specs.First.{reading-first}
 use Rattle.listing.specs.declared.Listed.{Listed}
 use Rattle.listing.specs.declared.Listed.the-variants.{Written, Short}
 use Rattle.listing.specs.Listing.{refused, refusal, paragraphRows, paragraphSet, paragraphChecked, paragraphListing, indexRows, indexSet, indexChecked, indexListing, listed, listingOf}
@@ -29,6 +30,11 @@ use Rattle.listing.specs.Promise.{Promise, outcome}
 pub listed-unread : (job : List ℕ) (r : Refusal) → reading job mostWords ≡ refuse r → listingOf job ≡ refusal r
 unfolding listingOf listed
 listed-unread job r e = rw e
+
+-- ---- "A job of any size [..] gets its right answer": more than 16,408 bytes are decided by any longer front.
+pub listing-first : (job : List ℕ) (m : ℕ) → 16408 < m → listingOf (take m job) ≡ listingOf job
+unfolding listingOf
+listing-first job m long = ap listed (reading-first job mostWords m long)
 
 -- ---- a paragraph
 module _ (job : List ℕ) (l : Limits) (ws : List ℕ) (read : reading job mostWords ≡ accept (AskedParagraph l) ws) where
@@ -66,9 +72,11 @@ module _ (bytes s : List ℕ) {r : Listed} {t : List ℕ} (p : Promise (outcome 
   pub with-room : length bytes ≤ length s → (r ≡ Written (length bytes)) × (take (length bytes) t ≡ bytes) × (drop (length bytes) t ≡ drop (length bytes) s)
   unfolding outcome over
   with-room h =
-      let q : Promise (record { answer = Written (length bytes); out = over bytes s }) r t = rw (le-leb (length bytes) (length s) h) at p in
-      (q .answered, ap (take (length bytes)) (q .left) ∙ take-append-seam bytes (drop (length bytes) s),
-      ap (drop (length bytes)) (q .left) ∙ drop-append-seam bytes (drop (length bytes) s))
+      let q : Promise (record { answer = Written (length bytes); out = over bytes s }) r t = rw (le-leb (length bytes) (length s) h) at p in (
+        q .answered,
+        ap (take (length bytes)) (q .left) ∙ take-append-seam bytes (drop (length bytes) s),
+        ap (drop (length bytes)) (q .left) ∙ drop-append-seam bytes (drop (length bytes) s),
+      )
 
   -- "A buffer that is too short gets a clear answer, and is left unchanged."
   pub without-room : length s < length bytes → (r ≡ Short (length bytes)) × (t ≡ s)
