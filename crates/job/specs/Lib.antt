@@ -3,5 +3,6 @@ pub mod Reader
 pub mod Promise
 pub mod Fits
 pub mod First
+pub mod Places
 pub mod Section
 pub mod Jobs

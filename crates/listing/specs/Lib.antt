@@ -3,5 +3,6 @@ pub mod Listing
 pub mod Promise
 pub mod Given
 pub mod Size
+pub mod Most
 pub mod Worked
 pub mod Asks

@@ -1,4 +1,4 @@
--- No listing has more than 81,979 bytes. Assumes nothing but what each law states.
+-- How many bytes the rows of a setting have: at most 81,979. Assumes nothing but what each law states.
 use Prim.Native.Nat.{ℕ, zero, suc, _+_, _*_, _^_, _≤_, _<_}
 use mathlib.Core.Path.{_≡_, refl, ap, sym, subst, _∙_}
 use mathlib.Core.Bool.{Bool, true, false, _&&_}
