@@ -1,3 +1,7 @@
 pub mod Passes
 pub mod Parts
 pub mod Lining
+pub mod Settings
+pub mod Paragraphs
+pub mod Paging
+pub mod Pages

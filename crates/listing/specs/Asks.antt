@@ -9,7 +9,7 @@ use Rattle.paper.specs.Paragraph.{end}
 use Rattle.paper.specs.Strips.{sums}
 use Rattle.rows.specs.Puts.{Fits}
 use Rattle.listing.specs.declared.refusal.Reason.{Reason}
-use Rattle.listing.specs.Listing.{lineRow, lineRows}
+use Rattle.listing.specs.Listing.{lineRow, lineRows, paragraphRows, boundaryRow, boundaryRows, indexRows}
 
 -- a refusal's number and place
 pub record Tells (number place : ℕ) (r : Reason) : Type 0 where
@@ -41,3 +41,29 @@ pub record LinesAsk (l : Limits) (ws S js : List ℕ) (at : ℕ) : Type 0 where
   pub text : Text l ws S
   pub starts : Starts ws js
   pub room : Fits at (lineRows l ws js)
+
+pub record RowsAsk (l : Limits) (ws S js : List ℕ) (total moves : ℕ) : Type 0 where
+  pub text : Text l ws S
+  pub starts : Starts ws js
+  pub room : Fits 0 (paragraphRows l ws js total moves)
+
+-- ---- the index
+-- an item of the list
+pub record Item (ws : List ℕ) (b : ℕ) : Type 0 where
+  pub first : 1 ≤ b
+  pub within : b ≤ length ws
+
+pub record BoundaryAsks (ws : List ℕ) (b at : ℕ) : Type 0 where
+  pub item : Item ws b
+  pub room : Fits at (boundaryRow ws b)
+
+pub record Items (ws bs : List ℕ) : Type 0 where
+  pub each : (k : ℕ) → k < length bs → Item ws (getD bs k 0)
+
+pub record BoundariesAsk (ws bs : List ℕ) (at : ℕ) : Type 0 where
+  pub items : Items ws bs
+  pub room : Fits at (boundaryRows ws bs)
+
+pub record PagesAsk (ws bs : List ℕ) (total moves : ℕ) : Type 0 where
+  pub items : Items ws bs
+  pub room : Fits 0 (indexRows ws bs total moves)

@@ -1,5 +1,6 @@
 -- The listing of a job: what it is, what is promised of it, and worked listings.
 pub mod Listing
 pub mod Promise
+pub mod Size
 pub mod Worked
 pub mod Asks
