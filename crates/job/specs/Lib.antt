@@ -2,5 +2,6 @@
 pub mod Reader
 pub mod Promise
 pub mod Fits
+pub mod First
 pub mod Section
 pub mod Jobs

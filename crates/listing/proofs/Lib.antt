@@ -5,3 +5,4 @@ pub mod Settings
 pub mod Paragraphs
 pub mod Paging
 pub mod Pages
+pub mod Answers

@@ -127,8 +127,15 @@ module _ (l : PageLimits) (ws : List ℕ) (s : IndexStrips) where
 
         pub pages-room : lines ≤ length (t .boundaries)
         pages-room =
-            omega (arith, given .passed .few, lent .boundaries, few-boundaries, given .count, ap length (given .strip),
-            length-over (boundaries l ws) (s .boundaries) (omega (arith, given .passed .few, lent .boundaries, few-boundaries)))
+            omega (
+              arith,
+              given .passed .few,
+              lent .boundaries,
+              few-boundaries,
+              given .count,
+              ap length (given .strip),
+              length-over (boundaries l ws) (s .boundaries) (omega (arith, given .passed .few, lent .boundaries, few-boundaries)),
+            )
 
         boundaries-are : take lines (t .boundaries) ≡ boundaries l ws
         boundaries-are = front-is (boundaries l ws) (s .boundaries) (t .boundaries) lines (given .strip) (sym (given .count))

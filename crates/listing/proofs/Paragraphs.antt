@@ -70,8 +70,15 @@ module _ (l : Limits) (ws : List ℕ) (s : ParagraphStrips) (lent : Lent s) (a :
 
     pub breaks-room : lines ≤ length (t .breaks)
     breaks-room =
-        omega (arith, given .passed .few, lent .breaks, few-lines, given .count, ap length (given .breaks-strip),
-        length-over (breaks l ws) (s .breaks) (omega (arith, given .passed .few, lent .breaks, few-lines)))
+        omega (
+          arith,
+          given .passed .few,
+          lent .breaks,
+          few-lines,
+          given .count,
+          ap length (given .breaks-strip),
+          length-over (breaks l ws) (s .breaks) (omega (arith, given .passed .few, lent .breaks, few-lines)),
+        )
 
     sums-are : take (length ws + 1) (t .sums) ≡ sums ws
     sums-are = front-is (sums ws) (s .sums) (t .sums) (length ws + 1) (given .sums-strip) (length-sums ws)

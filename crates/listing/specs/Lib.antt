@@ -1,6 +1,7 @@
 -- The listing of a job: what it is, what is promised of it, and worked listings.
 pub mod Listing
 pub mod Promise
+pub mod Given
 pub mod Size
 pub mod Worked
 pub mod Asks

@@ -40,8 +40,17 @@ around-size : (kind cost parts rows : List ℕ) (n total count moves : ℕ) → 
 unfolding around headed
 around-size kind cost parts rows n total count moves hn ht hc hm =
     simp length-append
-    (omega (arith, row-one kind n, row-one cost total, row-one parts count, row-one (ascii "moves") moves,
-    wide4 n (omega arith), digits-width 13 total (omega arith) (omega arith), wide4 count (omega arith), wide4 moves (omega arith)))
+    (omega (
+      arith,
+      row-one kind n,
+      row-one cost total,
+      row-one parts count,
+      row-one (ascii "moves") moves,
+      wide4 n (omega arith),
+      digits-width 13 total (omega arith) (omega arith),
+      wide4 count (omega arith),
+      wide4 moves (omega arith),
+    ))
 
 -- ---- a setting has no more lines than words
 pub setting-count : (p : Problem) (i : ℕ) (js : List ℕ) → Admissible p i js → i + length js < p .end
@@ -80,8 +89,13 @@ module _ (l : Limits) (ws : List ℕ) (passed : Passed (limitsHold l) ws) where
   unfolding paragraph lineRow
   line-size i j c =
       let m : line ws i j ≤ l .lmax = measured i j (c .admissible) in
-      omega (arith, row-two (digits i) (line ws i j) (charge l ws i j), wide4 i (omega (arith, c .rises, c .within, passed .few)),
-      wide4 (line ws i j) (omega (arith, ranges l (passed .limits) .lmax-high)), digits-width 9 (charge l ws i j) (omega (arith, charged i j m)) (omega arith))
+      omega (
+        arith,
+        row-two (digits i) (line ws i j) (charge l ws i j),
+        wide4 i (omega (arith, c .rises, c .within, passed .few)),
+        wide4 (line ws i j) (omega (arith, ranges l (passed .limits) .lmax-high)),
+        digits-width 9 (charge l ws i j) (omega (arith, charged i j m)) (omega arith),
+      )
 
   lines-size : (i : ℕ) (js : List ℕ) → Admissible (paragraph l ws) i js → length (lineRows l ws (i ∷ js)) ≤ 20 + 20 * length js
   unfolding paragraph
@@ -98,9 +112,13 @@ module _ (l : Limits) (ws : List ℕ) (passed : Passed (limitsHold l) ws) where
       let n : 1 + length (right .0) < end ws = setting-count (paragraph l ws) 1 (right .0) a in
       let b : breaks l ws ≡ 1 ∷ right .0 = right .1 in
       rw b
-      (omega (arith, passed .few, lines-size 1 (right .0) a,
-      around-size (ascii "paragraph") (ascii "penalty") (ascii "lines") (lineRows l ws (1 ∷ right .0)) (length ws) total (length (1 ∷ right .0)) (length (queueMoves l ws))
-      (passed .few) (paragraph-bound l r ws (passed .few) 1 total (omega arith) (omega arith) e) (omega (arith, passed .few)) (omega (arith, at-most-2n l ws passed, passed .few))))
+      (omega (
+        arith,
+        passed .few,
+        lines-size 1 (right .0) a,
+        around-size (ascii "paragraph") (ascii "penalty") (ascii "lines") (lineRows l ws (1 ∷ right .0)) (length ws) total (length (1 ∷ right .0)) (length (queueMoves l ws))
+            (passed .few) (paragraph-bound l r ws (passed .few) 1 total (omega arith) (omega arith) e) (omega (arith, passed .few)) (omega (arith, at-most-2n l ws passed, passed .few)),
+      ))
 
 -- ---- the index
 no-boundary : (ws : List ℕ) → length (boundaryRows ws []) ≡ 0
@@ -131,6 +149,10 @@ module _ (l : PageLimits) (ws : List ℕ) (passed : Passed (pageLimitsHold l) ws
       let a : Admissible (index l ws) 0 (boundaries l ws) = index-right l ws total e .1 .admissible in
       let n : 0 + length (boundaries l ws) < end ws = setting-count (index l ws) 0 (boundaries l ws) a in
       let t : total < 2 ^ 25 = index-bound l ws (passed .lengths) (passed .few) 0 total (omega arith) e in
-      omega (arith, passed .few, boundaries-size 0 (boundaries l ws) a,
-      around-size (ascii "index") (ascii "keys") (ascii "boundaries") (boundaryRows ws (boundaries l ws)) (length ws) total (length (boundaries l ws)) (length (pointerMoves l ws))
-      (passed .few) (omega arith) (omega (arith, passed .few)) (omega (arith, pointer-count l ws, passed .few)))
+      omega (
+        arith,
+        passed .few,
+        boundaries-size 0 (boundaries l ws) a,
+        around-size (ascii "index") (ascii "keys") (ascii "boundaries") (boundaryRows ws (boundaries l ws)) (length ws) total (length (boundaries l ws)) (length (pointerMoves l ws))
+            (passed .few) (omega arith) (omega (arith, passed .few)) (omega (arith, pointer-count l ws, passed .few)),
+      )

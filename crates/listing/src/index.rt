@@ -104,7 +104,12 @@ pub fn list_index(l: PageLimits, lengths: &[u32], out: &mut [u8]) -> Listed
         &mut steps,
         &mut boundaries,
     );
-    let Answer::Set { total, lines, moves } = answer else {
+    let Answer::Set {
+        total,
+        lines,
+        moves,
+    } = answer
+    else {
         return refused(told_answer(answer), out);
     };
     list_pages(lengths, &boundaries[..lines], total, moves, out)

@@ -160,9 +160,22 @@ pub fn list_paragraph(l: Limits, lengths: &[u32], out: &mut [u8]) -> Listed
         &mut steps,
         &mut breaks,
     );
-    let Answer::Set { total, lines, moves } = answer else {
+    let Answer::Set {
+        total,
+        lines,
+        moves,
+    } = answer
+    else {
         return refused(told_answer(answer), out);
     };
     let n = lengths.len();
-    list_set(l, lengths, &sums[..n + 1], &breaks[..lines], total, moves, out)
+    list_set(
+        l,
+        lengths,
+        &sums[..n + 1],
+        &breaks[..lines],
+        total,
+        moves,
+        out,
+    )
 }

@@ -20,12 +20,30 @@ fn told_refusal(r: Refusal) -> Reason
     ensures { λ t. ⌜ Tells (toldRefusal r .number) (toldRefusal r .place) t ⌝ }
 {
     match r {
-        Refusal::Empty => Reason { number: 1, place: 0 },
-        Refusal::Many => Reason { number: 2, place: 0 },
-        Refusal::Limits => Reason { number: 3, place: 0 },
-        Refusal::Length(word) => Reason { number: 4, place: word },
-        Refusal::Room(strip) => Reason { number: 5, place: strip },
-        Refusal::Job(offset) => Reason { number: 7, place: offset },
+        Refusal::Empty => Reason {
+            number: 1,
+            place: 0,
+        },
+        Refusal::Many => Reason {
+            number: 2,
+            place: 0,
+        },
+        Refusal::Limits => Reason {
+            number: 3,
+            place: 0,
+        },
+        Refusal::Length(word) => Reason {
+            number: 4,
+            place: word,
+        },
+        Refusal::Room(strip) => Reason {
+            number: 5,
+            place: strip,
+        },
+        Refusal::Job(offset) => Reason {
+            number: 7,
+            place: offset,
+        },
     }
 }
 
@@ -34,8 +52,18 @@ pub fn told_answer(a: Answer) -> Reason
     ensures { λ t. ⌜ Tells (told a .number) (told a .place) t ⌝ }
 {
     match a {
-        Answer::Set { total: _, lines: _, moves: _ } => Reason { number: 0, place: 0 },
-        Answer::None { moves: _ } => Reason { number: 6, place: 0 },
+        Answer::Set {
+            total: _,
+            lines: _,
+            moves: _,
+        } => Reason {
+            number: 0,
+            place: 0,
+        },
+        Answer::None { moves: _ } => Reason {
+            number: 6,
+            place: 0,
+        },
         Answer::Refused(r) => told_refusal(r),
     }
 }
@@ -45,7 +73,10 @@ pub fn told_job(j: Job) -> Reason
     ensures { λ t. ⌜ Tells (toldJob j .number) (toldJob j .place) t ⌝ }
 {
     match j {
-        Job::Read(_, _) => Reason { number: 0, place: 0 },
+        Job::Read(_, _) => Reason {
+            number: 0,
+            place: 0,
+        },
         Job::Refused(r) => told_refusal(r),
     }
 }
