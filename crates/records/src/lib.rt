@@ -23,7 +23,13 @@ pub fn record_at(file: &[u8], at: usize) -> Record
     let from = at + 2;
     let size = wide(file[at]) + 256 * wide(file[at + 1]);
     if file.len() - from < size {
-        return Record { from, end: file.len() };
+        return Record {
+            from,
+            end: file.len(),
+        };
     }
-    Record { from, end: from + size }
+    Record {
+        from,
+        end: from + size,
+    }
 }

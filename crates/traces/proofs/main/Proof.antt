@@ -1,10 +1,8 @@
 -- `traces::main` is safe and ends: each record ends after it begins. Assumes nothing.
 use native.Mathlib.Omega.{arith}
 use borrow.Author.Needs.{needs}
-use lib.Seq.{length-take-le}
 use lib.ListN.{length}
 use Prim.Native.Nat.{_-_, _≤_}
-use mathlib.Core.Path.{sym}
 use Rattle.traces.proofs.main.Statement.{statement}
 use Rattle.traces.proofs.main.Tie as tie
 
