@@ -2,12 +2,9 @@
 use paper::Kind;
 use paper::Move;
 ghost use mathlib.Core.Path.{_≡_};
-ghost use Prim.Native.Nat.{ℕ, _+_, _≤_, _<_};
-ghost use lib.Dec.{T};
+ghost use Prim.Native.Nat.{_+_, _≤_, _<_};
 ghost use lib.ListN.{length, set, replicate};
-ghost use Rattle.laws.specs.Number.{all};
 ghost use Rattle.laws.specs.Strip.{over};
-ghost use Rattle.paper.specs.Allowed.{lengthHolds};
 ghost use Rattle.paper.specs.Moves.{kindNumber, code};
 ghost use Rattle.paper.specs.Strips.{sums as sumsOf};
 ghost use Rattle.strips.specs.Asks.{SumsAsk, MoveAsk, FollowAsk, Followed};
