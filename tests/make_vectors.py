@@ -9,9 +9,9 @@ bytes. The input ends with its last record and has at most 60,000 bytes.
 
 Output of jobs and longs: the listings of the jobs one after the other, nothing between them.
 
-Output of traces: its jobs are all read without a refusal, n at most 12. For each job the strips are lent with 2 entries more than
-01 asks for, every entry 7 before the call (a u64 7 in best). After the call, for each strip in 01's order, one line with ALL its
-entries in decimal, and then what was told:
+Output of traces: its jobs are all read without a refusal, n at most 12. For each job the strips lent have room for 12 lengths and 2
+entries more, every entry 7 before the call (a u64 7 in best). After the call, for each strip in 01's order, one line with the entries
+that 01 asks for and 2 more, in decimal, and then what was told:
     sums: 0 3 5 7 12 7 7
     best: ..
     told NUMBER PLACE TOTAL LINES MOVES

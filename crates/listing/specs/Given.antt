@@ -1,10 +1,13 @@
 -- The listing of a job is 01's listing of what the definitions give, case by case; and what the promise says of a buffer with room and of one
 -- without. Assumes nothing but what each law states.
 use Prim.Native.Nat.{ℕ, _≤_, _<_}
-use mathlib.Core.Path.{_≡_, refl, ap, _∙_}
+use mathlib.Core.Path.{_≡_, refl, ap, sym, subst, _∙_}
 use mathlib.Core.List.{List, [], _∷_}
-use borrow.Author.Tests.{le-leb, lt-leb}
-use lib.ListN.{length, take, drop}
+use mathlib.Core.Bool.{Bool, true, false}
+use native.Mathlib.Omega.{arith}
+use lib.Dec.{leb}
+use borrow.Author.Tests.{le-leb, lt-leb, leb-true, leb-false}
+use lib.ListN.{length, take, drop, length-take}
 use lib.Seq.{take-append-seam, drop-append-seam}
 use Rattle.laws.specs.Cost.{none, some}
 use Rattle.laws.specs.Strip.{over}
@@ -84,3 +87,21 @@ module _ (bytes s : List ℕ) {r : Listed} {t : List ℕ} (p : Promise (outcome 
   without-room h =
       let q : Promise (record { answer = Short (length bytes); out = s }) r t = rw (lt-leb (length bytes) (length s) h) at p in
       (q .answered, q .left)
+
+  -- what is written lies in the buffer
+  pub written-within : (n : ℕ) → r ≡ Written n → n ≤ length t
+  written-within n e = go (leb (length bytes) (length s)) refl
+    where
+      count : Listed → ℕ
+      count (Written k) = k
+      count (Short k) = 0
+
+      isShort : Listed → Type 0
+      isShort (Written k) = ⊥
+      isShort (Short k) = Unit
+
+      go : (b : Bool) → leb (length bytes) (length s) ≡ b → n ≤ length t
+      go true h =
+          let fits : length bytes ≤ length s = leb-true (length bytes) (length s) h in
+          omega (arith, ap count (sym e ∙ with-room fits .0), ap length (with-room fits .1), length-take (length bytes) t)
+      go false h = absurd (subst isShort (sym (without-room (leb-false (length bytes) (length s) h) .0) ∙ e) tt)

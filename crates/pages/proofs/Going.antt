@@ -16,7 +16,7 @@ use Rattle.strips.specs.Running.{Ran, ran-length, joined-room, joined-ran}
 use Rattle.pointer.specs.Held.{Bests, bests-more}
 use Rattle.strips.specs.Words.{wordsOf, sums-size}
 use Rattle.pointer.specs.Asks as Pointer
-use Rattle.pages.specs.Asks.{StartsAsk, Started}
+use Rattle.pages.specs.Asks.{StartsAsk, AllStarted}
 use Rattle.pages.proofs.Nexts.{Nexts, bests-first, bests-all, nexts-first, nexts-more, nexts-all}
 
 -- the starts down to i are done
@@ -112,7 +112,7 @@ going-ask l S B₀ N₀ L₀ R₀ m₀ B N L R m i r count a pos g =
     }
 
 -- ---- after the last
-pub going-done : (l : PageLimits) (ws m₀ B N L R m : List ℕ) (i r count : ℕ) → Going l ws m₀ B N L R m i r count → i ≤ 0 → Started l ws m₀ count B N L R m
+pub going-done : (l : PageLimits) (ws m₀ B N L R m : List ℕ) (i r count : ℕ) → Going l ws m₀ B N L R m i r count → i ≤ 0 → AllStarted l ws m₀ count B N L R m
 unfolding pointerMoves
 going-done l ws m₀ B N L R m i r count g end =
     let z : i ≡ 0 = omega arith in

@@ -14,6 +14,7 @@ use Rattle.paper.specs.Strips.{entries, bestEntry}
 use Rattle.paper.specs.Entries.{length-entries, getD-entries}
 use Rattle.pointer_right.specs.Turns.{best-last}
 use Rattle.pointer.specs.Held.{Bests}
+use Rattle.pages.specs.Asks.{bestsOf, nextsOf}
 
 -- the next strip holds the chosen nexts of the starts from i on, and "The end's next is 0."
 pub record Nexts (l : PageLimits) (ws N : List ℕ) (i : ℕ) : Type 0 where
@@ -33,7 +34,7 @@ module _ (l : PageLimits) (ws : List ℕ) where
         rw (z, getD-set-same B e 0 0 (omega arith), f, best-last l ws);
   }
 
-  pub bests-all : (B : List ℕ) → Bests l ws B 0 → B ≡ entries (λ i. bestEntry (Index.best l ws i)) 0 (length ws + 2)
+  pub bests-all : (B : List ℕ) → Bests l ws B 0 → B ≡ bestsOf l ws
   bests-all B b =
       ext-getD 0 B (entries f 0 (length ws + 2)) (b .size ∙ sym (length-entries f 0 (length ws + 2)))
       (λ k h. b .each k (omega arith) (omega (arith, b .size)) ∙ sym (at k (omega (arith, b .size))))
@@ -63,7 +64,7 @@ module _ (l : PageLimits) (ws : List ℕ) where
         last = getD-set-other N i (length ws + 1) (Index.chosenNext l ws i) 0 (omega arith) ∙ n .last;
       })
 
-  pub nexts-all : (N : List ℕ) → Nexts l ws N 0 → N ≡ entries (Index.chosenNext l ws) 0 (length ws + 1) ++ (0 ∷ [])
+  pub nexts-all : (N : List ℕ) → Nexts l ws N 0 → N ≡ nextsOf l ws
   nexts-all N n = ext-getD 0 N (es ++ (0 ∷ [])) (omega (arith, n .size, size, length-append es (0 ∷ []))) at
     where
       es : List ℕ

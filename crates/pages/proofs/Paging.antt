@@ -1,7 +1,7 @@
 -- The answer and the boundaries, from what stands after all starts. Assumes nothing.
 use Prim.Native.Nat.{ℕ, _+_, _-_, _^_, _≤_, _<_}
 use mathlib.Core.Path.{_≡_, refl, ap, sym, subst, _∙_}
-use mathlib.Core.List.{List, [], _∷_, _++_}
+use mathlib.Core.List.{List, [], _∷_}
 use native.Mathlib.Omega.{arith}
 use lib.ListN.{length, getD, length-append, List·getD-append}
 use Rattle.laws.specs.Cost.{Cost, none, some, has-some}
@@ -19,7 +19,7 @@ use Rattle.paper.specs.Entries.{length-entries, getD-entries}
 use Rattle.pointer_right.specs.Numbers.{best-none}
 use Rattle.strips.specs.Asks.{FollowAsk, Followed}
 use Rattle.strips.specs.Chain.{nextIn, chain, Leads, leads-rises, leads-on, chain-later, chosen-leads}
-use Rattle.pages.specs.Asks.{Filled, PageAsk, Paged}
+use Rattle.pages.specs.Asks.{bestsOf, nextsOf, Filled, PageAsk, Paged}
 
 module _ (l : PageLimits) (ws : List ℕ) (s : IndexStrips) (taken : ℕ) (S B N L R m : List ℕ) (d : Filled l ws (s .sums) (s .best) (s .next) (s .left) (s .right) (s .moves) taken S B N L R m) where
   abbrev exit : List ℕ → IndexStrips
@@ -32,7 +32,7 @@ module _ (l : PageLimits) (ws : List ℕ) (s : IndexStrips) (taken : ℕ) (S B N
   total-is : getD B 0 0 ≡ bestEntry (Index.best l ws 0)
   total-is =
       ap (λ (b : List ℕ). getD b 0 0) (d .best)
-      ∙ over-front (entries f 0 (length ws + 2)) (s .best) 0 0 (omega (arith, length-entries f 0 (length ws + 2)))
+      ∙ over-front (bestsOf l ws) (s .best) 0 0 (omega (arith, length-entries f 0 (length ws + 2)))
       ∙ getD-entries f 0 (length ws + 2) 0 0 (omega arith)
     where
       f : ℕ → ℕ
@@ -48,11 +48,11 @@ module _ (l : PageLimits) (ws : List ℕ) (s : IndexStrips) (taken : ℕ) (S B N
   abbrev es : List ℕ
   es = entries (Index.chosenNext l ws) 0 (length ws + 1)
 
-  es-size : length (es ++ (0 ∷ [])) ≡ length ws + 2
+  es-size : length (nextsOf l ws) ≡ length ws + 2
   es-size = omega (arith, length-append es (0 ∷ []), length-entries (Index.chosenNext l ws) 0 (length ws + 1))
 
   next-size : PageAsk l ws s → length ws + 2 ≤ length N
-  next-size a = omega (arith, a .fill .next, ap length (d .next), length-over (es ++ (0 ∷ [])) (s .next) (omega (arith, a .fill .next, es-size)))
+  next-size a = omega (arith, a .fill .next, ap length (d .next), length-over (nextsOf l ws) (s .next) (omega (arith, a .fill .next, es-size)))
 
   next-is : (k : ℕ) → 0 ≤ k → k ≤ length ws → nextIn N 0 k ≡ Index.chosenNext l ws k
   next-is k h g =
@@ -60,7 +60,7 @@ module _ (l : PageLimits) (ws : List ℕ) (s : IndexStrips) (taken : ℕ) (S B N
       let y : 0 + k ≡ k = omega arith in
       rw z
       (ap (λ (n : List ℕ). getD n k 0) (d .next)
-      ∙ over-front (es ++ (0 ∷ [])) (s .next) k 0 (omega (arith, es-size))
+      ∙ over-front (nextsOf l ws) (s .next) k 0 (omega (arith, es-size))
       ∙ List·getD-append es (0 ∷ []) 0 k (omega (arith, length-entries (Index.chosenNext l ws) 0 (length ws + 1)))
       ∙ getD-entries (Index.chosenNext l ws) 0 (length ws + 1) k 0 (omega arith) ∙ rw y)
 

@@ -9,10 +9,10 @@ use Rattle.laws.specs.Strip.{over}
 use Rattle.paper.specs.Allowed.{pageLimitsHold}
 use Rattle.paper.specs.declared.PageLimits.{PageLimits}
 use Rattle.paper.specs.Index as Index
-use Rattle.paper.specs.Strips.{entries, sums, bestEntry, leftEntry, rightEntry}
+use Rattle.paper.specs.Strips.{entries, sums, leftEntry, rightEntry}
 use Rattle.paper.specs.Entries.{length-entries}
 use Rattle.strips.specs.Words.{wordsOf, words-of-sums, holds-sums, length-sums}
-use Rattle.pages.specs.Asks.{StartsAsk, Started, FillAsk, Filled}
+use Rattle.pages.specs.Asks.{bestsOf, nextsOf, leftsOf, rightsOf, StartsAsk, AllStarted, FillAsk, Filled}
 
 -- ---- the parts that are used
 -- the sums at the front of the strip
@@ -39,20 +39,17 @@ unfolding over
 back xs ys s k e f = rw (e, f)
 
 pub fill-done : (l : PageLimits) (ws S₀ B₀ N₀ L₀ R₀ m₀ : List ℕ) (taken : ℕ) (S B N L R m : List ℕ) → S ≡ over (sums ws) S₀ →
-    Started l (wordsOf (take (length ws + 1) S)) m₀ taken B N L R m →
+    AllStarted l (wordsOf (take (length ws + 1) S)) m₀ taken B N L R m →
     Filled l ws S₀ B₀ N₀ L₀ R₀ m₀ taken S (B ++ drop (length ws + 2) B₀) (N ++ drop (length ws + 2) N₀) (L ++ drop (length ws + 2) L₀) (R ++ drop (length ws + 2) R₀) m
 fill-done l ws S₀ B₀ N₀ L₀ R₀ m₀ taken S B N L R m e d =
     let f : wordsOf (take (length ws + 1) S) ≡ ws = ap wordsOf (front ws S₀ S e) ∙ words-of-sums ws in
     let d = rw f at d in
     record {
       sums = e;
-      best = back (entries (λ i. bestEntry (Index.best l ws i)) 0 (length ws + 2)) B B₀ (length ws + 2) (d .best)
-          (length-entries (λ i. bestEntry (Index.best l ws i)) 0 (length ws + 2));
-      next = back (entries (Index.chosenNext l ws) 0 (length ws + 1) ++ (0 ∷ [])) N N₀ (length ws + 2) (d .next)
-          (simp length-append (omega (arith, length-entries (Index.chosenNext l ws) 0 (length ws + 1))));
-      left = back (0 ∷ entries (leftEntry (Index.best l ws)) 1 (length ws + 1)) L L₀ (length ws + 2) (d .left)
-          (omega (arith, length-entries (leftEntry (Index.best l ws)) 1 (length ws + 1)));
-      right = back (0 ∷ entries (rightEntry (Index.best l ws) (length ws)) 1 (length ws) ++ (0 ∷ [])) R R₀ (length ws + 2) (d .right)
+      best = back (bestsOf l ws) B B₀ (length ws + 2) (d .best) (length-entries _ 0 (length ws + 2));
+      next = back (nextsOf l ws) N N₀ (length ws + 2) (d .next) (simp length-append (omega (arith, length-entries (Index.chosenNext l ws) 0 (length ws + 1))));
+      left = back (leftsOf l ws) L L₀ (length ws + 2) (d .left) (omega (arith, length-entries (leftEntry (Index.best l ws)) 1 (length ws + 1)));
+      right = back (rightsOf l ws) R R₀ (length ws + 2) (d .right)
           (omega (arith, length-append (entries (rightEntry (Index.best l ws) (length ws)) 1 (length ws)) (0 ∷ []), length-entries (rightEntry (Index.best l ws) (length ws)) 1 (length ws)));
       moves = d .moves;
       count = d .count;

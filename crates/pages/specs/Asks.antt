@@ -13,6 +13,20 @@ use Rattle.paper.specs.Strips.{entries, sums, bestEntry, leftEntry, rightEntry,
 use Rattle.strips.specs.Running.{written}
 use Rattle.strips.specs.Words.{Holds}
 
+-- ---- the part used of each strip, as 01 says it
+abbrev pub bestsOf : PageLimits → List ℕ → List ℕ
+bestsOf l ws = entries (λ i. bestEntry (Index.best l ws i)) 0 (length ws + 2)
+
+abbrev pub nextsOf : PageLimits → List ℕ → List ℕ
+nextsOf l ws = entries (Index.chosenNext l ws) 0 (length ws + 1) ++ (0 ∷ [])
+
+abbrev pub leftsOf : PageLimits → List ℕ → List ℕ
+leftsOf l ws = 0 ∷ entries (leftEntry (Index.best l ws)) 1 (length ws + 1)
+
+abbrev pub rightsOf : PageLimits → List ℕ → List ℕ
+rightsOf l ws = 0 ∷ entries (rightEntry (Index.best l ws) (length ws)) 1 (length ws) ++ (0 ∷ [])
+
+-- ---- all starts
 -- the sums of a text, strips of just the entries used, and room for the moves
 pub record StartsAsk (l : PageLimits) (S B N L R m : List ℕ) : Type 0 where
   pub held : Holds (pageLimitsHold l) S
@@ -22,15 +36,16 @@ pub record StartsAsk (l : PageLimits) (S B N L R m : List ℕ) : Type 0 where
   pub right : length R ≡ length S + 1
   pub moves : 2 * length S ≤ length m + 2
 
--- every strip as 01 says it after all starts
-pub record Started (l : PageLimits) (ws m₀ : List ℕ) (taken : ℕ) (B N L R m : List ℕ) : Type 0 where
-  pub best : B ≡ entries (λ i. bestEntry (Index.best l ws i)) 0 (length ws + 2)
-  pub next : N ≡ entries (Index.chosenNext l ws) 0 (length ws + 1) ++ (0 ∷ [])
-  pub left : L ≡ 0 ∷ entries (leftEntry (Index.best l ws)) 1 (length ws + 1)
-  pub right : R ≡ 0 ∷ entries (rightEntry (Index.best l ws) (length ws)) 1 (length ws) ++ (0 ∷ [])
+-- each strip is the part used
+pub record AllStarted (l : PageLimits) (ws m₀ : List ℕ) (taken : ℕ) (B N L R m : List ℕ) : Type 0 where
+  pub best : B ≡ bestsOf l ws
+  pub next : N ≡ nextsOf l ws
+  pub left : L ≡ leftsOf l ws
+  pub right : R ≡ rightsOf l ws
   pub moves : m ≡ written (pointerMoves l ws) m₀
   pub count : taken ≡ length (pointerMoves l ws)
 
+-- ---- the strips
 -- a list that refusals 1 to 5 pass, but for the room of the boundaries
 pub record FillAsk (l : PageLimits) (ws S B N L R m : List ℕ) : Type 0 where
   pub passed : Passed (pageLimitsHold l) ws
@@ -41,13 +56,13 @@ pub record FillAsk (l : PageLimits) (ws S B N L R m : List ℕ) : Type 0 where
   pub right : length ws + 2 ≤ length R
   pub moves : 2 * length ws ≤ length m
 
--- the same, the rest of each strip being as it was
+-- each strip has the part used at its front, and its rest as it was
 pub record Filled (l : PageLimits) (ws S₀ B₀ N₀ L₀ R₀ m₀ : List ℕ) (taken : ℕ) (S B N L R m : List ℕ) : Type 0 where
   pub sums : S ≡ over (sums ws) S₀
-  pub best : B ≡ over (entries (λ i. bestEntry (Index.best l ws i)) 0 (length ws + 2)) B₀
-  pub next : N ≡ over (entries (Index.chosenNext l ws) 0 (length ws + 1) ++ (0 ∷ [])) N₀
-  pub left : L ≡ over (0 ∷ entries (leftEntry (Index.best l ws)) 1 (length ws + 1)) L₀
-  pub right : R ≡ over (0 ∷ entries (rightEntry (Index.best l ws) (length ws)) 1 (length ws) ++ (0 ∷ [])) R₀
+  pub best : B ≡ over (bestsOf l ws) B₀
+  pub next : N ≡ over (nextsOf l ws) N₀
+  pub left : L ≡ over (leftsOf l ws) L₀
+  pub right : R ≡ over (rightsOf l ws) R₀
   pub moves : m ≡ written (pointerMoves l ws) m₀
   pub count : taken ≡ length (pointerMoves l ws)
 

@@ -8,7 +8,7 @@ use strips::clear;
 use strips::fill_sums;
 use strips::follow;
 ghost use Rattle.strips.specs.Words.{wordsOf};
-ghost use Rattle.pages.specs.Asks.{StartsAsk, Started, FillAsk, Filled, PageAsk, Paged};
+ghost use Rattle.pages.specs.Asks.{StartsAsk, AllStarted, FillAsk, Filled, PageAsk, Paged};
 
 // "At start i, from n down to 0", on strips of just the entries used. Answers the number of moves.
 fn starts(
@@ -21,7 +21,7 @@ fn starts(
     moves: &mut [u32],
 ) -> usize
     requires { ⌜ StartsAsk l (now sums) (now best) (now next) (now left) (now right) (now moves) ⌝ }
-    ensures { λ r. ⌜ Started l (wordsOf (now (sums .entry))) (now (moves .entry)) r (now (best .exit)) (now (next .exit)) (now (left .exit)) (now (right .exit)) (now (moves .exit)) ⌝ }
+    ensures { λ r. ⌜ AllStarted l (wordsOf (now (sums .entry))) (now (moves .entry)) r (now (best .exit)) (now (next .exit)) (now (left .exit)) (now (right .exit)) (now (moves .exit)) ⌝ }
 {
     let end = sums.len();
     clear(left, end + 1);

@@ -1,6 +1,6 @@
 -- One turn of the loops that lower the pointer: steps and jumps, in the values that the code has at hand. Assumes nothing.
 use Prim.Native.Nat.{ℕ, _+_, _-_, _≤_, _<_}
-use mathlib.Core.Path.{_≡_}
+use mathlib.Core.Path.{_≡_, ap, sym, _∙_}
 use mathlib.Core.List.{List}
 use native.Mathlib.Omega.{arith}
 use lib.ListN.{length, set}
@@ -67,30 +67,30 @@ module _ (l : PageLimits) (ws : List ℕ) (i r₀ : ℕ) (m₀ m : List ℕ) (r 
 abbrev pub jumping : PageLimits → List ℕ → ℕ → List ℕ → ℕ → Taken ℕ
 jumping l ws i left r = jumps (pagesOf l ws) i left r r
 
--- the left entry of r is lower, and after start i
-pub jump-between : {rule : Taken ℕ} {l : PageLimits} {i : ℕ} {S left : List ℕ} {r₀ room : ℕ} → JumpsAsk rule l i S left r₀ room → (r : ℕ) → i < r → r ≤ r₀ →
-    ¬ (entryAt left r ≡ 0) → (i < entryAt left r) × (entryAt left r < r)
-jump-between a r above below has = (a .from r above (omega (arith, a .steps .within)) (omega arith), a .falls r (omega arith))
+-- w is the left entry of r: it is lower, and after start i
+pub jump-between : {rule : Taken ℕ} {l : PageLimits} {i : ℕ} {S left : List ℕ} {r₀ room : ℕ} → JumpsAsk rule l i S left r₀ room → (r w : ℕ) → i < r → r ≤ r₀ →
+    w ≡ entryAt left r → 0 < w → (i < w) × (w < r)
+jump-between a r w above below entry has = rw entry (a .from r above (omega (arith, a .steps .within)) (omega arith), a .falls r (omega arith))
 
 module _ (l : PageLimits) (ws : List ℕ) (i : ℕ) (left : List ℕ) (r₀ : ℕ) (m₀ m : List ℕ) (r taken : ℕ)
     (lo : Lowering (jumping l ws i left) i r₀ m₀ m r taken) where
   -- w is the left entry, x the gap to it
   module _ (falls : (k : ℕ) → 0 < entryAt left k → entryAt left k < k) (w x : ℕ) (entry : w ≡ entryAt left r) (is : x ≡ gap ws i w)
-      (has : ¬ (entryAt left r ≡ 0)) (far : l .lmin ≤ x) where
+      (has : 0 < w) (far : l .lmin ≤ x) where
     jump : jumping l ws i left r ≡ moved (move Jump (entryAt left r)) (jumping l ws i left (entryAt left r))
     jump = jumps-more l ws i left falls r (omega arith) (rw (is, entry) at far)
 
     pub jump-place : length (jumping l ws i left r₀ .moves) ≤ length m₀ → taken < length m₀
     jump-place = lowering-place (jumping l ws i left) i r₀ m₀ m r taken lo (move Jump (entryAt left r)) (entryAt left r) jump
 
-    pub jump-on : length (jumping l ws i left r₀ .moves) ≤ length m₀ → (i < entryAt left r) × (entryAt left r < r) → (n : List ℕ) →
-        n ≡ set m taken (code (move Jump (entryAt left r))) → Lowering (jumping l ws i left) i r₀ m₀ n w (taken + 1)
+    pub jump-on : length (jumping l ws i left r₀ .moves) ≤ length m₀ → (i < w) × (w < r) → (n : List ℕ) → n ≡ set m taken (code (move Jump (entryAt left r))) →
+        Lowering (jumping l ws i left) i r₀ m₀ n w (taken + 1)
     jump-on enough between =
-        rw entry
-        (lowering-more (jumping l ws i left) i r₀ m₀ m r taken lo (move Jump (entryAt left r)) (entryAt left r) jump enough (between .0) (between .1))
+        lowering-more (jumping l ws i left) i r₀ m₀ m r taken lo (move Jump (entryAt left r)) w (jump ∙ ap (λ (k : ℕ). moved (move Jump (entryAt left r)) (jumping l ws i left k)) (sym entry))
+        enough (between .0) (between .1)
 
-  pub jump-none : entryAt left r ≡ 0 → Ran (jumping l ws i left r₀) m₀ m taken r
-  jump-none none =
+  pub jump-none : (w : ℕ) → w ≡ entryAt left r → w ≡ 0 → Ran (jumping l ws i left r₀) m₀ m taken r
+  jump-none w entry none =
       lowering-done (jumping l ws i left) i r₀ m₀ m r taken lo (jumps-stop l ws i left r r (λ h. absurd (omega arith)))
 
   pub jump-near : (w x : ℕ) → w ≡ entryAt left r → x ≡ gap ws i w → x < l .lmin → Ran (jumping l ws i left r₀) m₀ m taken r

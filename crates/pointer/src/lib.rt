@@ -7,7 +7,7 @@ use paper::Move;
 use paper::PageLimits;
 use strips::put;
 ghost use mathlib.Core.Path.{_≡_};
-ghost use Prim.Native.Nat.{_+_, _≤_, _<_};
+ghost use Prim.Native.Nat.{_≤_};
 ghost use lib.ListN.{length};
 ghost use Rattle.paper.specs.Index.{gap as isGap, item};
 ghost use Rattle.paper.specs.PointerRules.{steps as isSteps, jumps as isJumps, pointed, chooser};
@@ -67,10 +67,10 @@ fn jumps(
     let mut taken = 0;
     loop {
         let entry = left[at];
-        if entry == 0 {
+        let to = wide(entry);
+        if to == 0 {
             break;
         }
-        let to = wide(entry);
         if gap(sums, i, to) < l.lmin {
             break;
         }

@@ -27,41 +27,41 @@ wide-requires c κs = search needs
 
 gap-requires : tie.Need-gap-requires Inv-loop μ-loop
 gap-requires c κs =
-    let to = jump-between (c .before .before .before .before .before .before .before .pre) _ (c .before .before .before .loop .inv .above) (c .before .before .before .loop .inv .below) (c .before .if1 .left) in
+    let to = jump-between (c .before .before .before .before .before .before .before .pre) _ _ (c .before .before .before .loop .inv .above) (c .before .before .before .loop .inv .below) (c .before .wide .ensures) (omega (arith, c .if1 .left)) in
     record {
       is = c .before .before .before .before .before .before .before .pre .steps .held .is;
-      order = omega (arith, c .wide .ensures);
-      within = omega (arith, c .wide .ensures, c .before .before .before .loop .inv .below, c .before .before .before .before .before .before .before .pre .steps .within);
+      order = to .0;
+      within = omega (arith, c .before .before .before .loop .inv .below, c .before .before .before .before .before .before .before .pre .steps .within);
     }
 
 put-requires : tie.Need-put-requires Inv-loop μ-loop
 put-requires c κs =
-    let to = jump-between (c .before .before .before .before .before .before .before .before .before .before .before .pre) _ (c .before .before .before .before .before .before .before .loop .inv .above) (c .before .before .before .before .before .before .before .loop .inv .below) (c .before .before .before .before .before .if1 .left) in
+    let to = jump-between (c .before .before .before .before .before .before .before .before .before .before .before .pre) _ _ (c .before .before .before .before .before .before .before .loop .inv .above) (c .before .before .before .before .before .before .before .loop .inv .below) (c .before .before .before .before .before .wide .ensures) (omega (arith, c .before .before .before .before .if1 .left)) in
     record {
-      place = omega (arith, jump-place _ _ _ _ _ _ _ _ _ (c .before .before .before .before .before .before .before .loop .inv) (c .before .before .before .before .before .before .before .before .before .before .before .pre .falls) _ _ (c .before .before .before .before .wide .ensures) (c .before .before .before .gap .ensures) (c .before .before .before .before .before .if1 .left) (c .before .if2 .left) (c .before .before .before .before .before .before .before .before .before .before .before .pre .steps .enough), running-length _ _ _ _ (c .before .before .before .before .before .before .before .loop .inv .run));
-      index = omega (arith, c .before .before .before .before .before .before .before .loop .inv .below, c .before .before .before .before .before .before .before .before .before .before .before .pre .steps .within, sums-size _ _ (c .before .before .before .before .before .before .before .before .before .before .before .pre .steps .held .is), c .before .before .before .before .before .before .before .before .before .before .before .pre .steps .held .passed .few);
+      place = omega (arith, jump-place _ _ _ _ _ _ _ _ _ (c .before .before .before .before .before .before .before .loop .inv) (c .before .before .before .before .before .before .before .before .before .before .before .pre .falls) _ _ (c .before .before .before .before .before .wide .ensures) (c .before .before .before .gap .ensures) (omega (arith, c .before .before .before .before .if1 .left)) (c .before .if2 .left) (c .before .before .before .before .before .before .before .before .before .before .before .pre .steps .enough), running-length _ _ _ _ (c .before .before .before .before .before .before .before .loop .inv .run));
+      index = omega (arith, c .before .before .before .before .before .wide .ensures, c .before .before .before .before .before .before .before .loop .inv .below, c .before .before .before .before .before .before .before .before .before .before .before .pre .steps .within, sums-size _ _ (c .before .before .before .before .before .before .before .before .before .before .before .pre .steps .held .is), c .before .before .before .before .before .before .before .before .before .before .before .pre .steps .held .passed .few);
     }
 
 add-taken : tie.Need-add-taken Inv-loop μ-loop
-add-taken c = omega (arith, jump-place _ _ _ _ _ _ _ _ _ (c .before .before .before .before .before .before .before .before .before .before .loop .inv) (c .before .before .before .before .before .before .before .before .before .before .before .before .before .before .pre .falls) _ _ (c .before .before .before .before .before .before .before .wide .ensures) (c .before .before .before .before .before .before .gap .ensures) (c .before .before .before .before .before .before .before .before .if1 .left) (c .before .before .before .before .if2 .left) (c .before .before .before .before .before .before .before .before .before .before .before .before .before .before .pre .steps .enough), c .before .before .before .before .before .before .before .before .before .before .before .before .before .before .good)
+add-taken c = omega (arith, jump-place _ _ _ _ _ _ _ _ _ (c .before .before .before .before .before .before .before .before .before .before .loop .inv) (c .before .before .before .before .before .before .before .before .before .before .before .before .before .before .pre .falls) _ _ (c .before .before .before .before .before .before .before .before .wide .ensures) (c .before .before .before .before .before .before .gap .ensures) (omega (arith, c .before .before .before .before .before .before .before .if1 .left)) (c .before .before .before .before .if2 .left) (c .before .before .before .before .before .before .before .before .before .before .before .before .before .before .pre .steps .enough), c .before .before .before .before .before .before .before .before .before .before .before .before .before .before .good)
 
 loop-less : tie.Need-loop-less Inv-loop μ-loop
-loop-less c = omega (arith, c .before .before .before .before .before .before .before .wide .ensures, jump-between (c .before .before .before .before .before .before .before .before .before .before .before .before .before .before .pre) _ (c .before .before .before .before .before .before .before .before .before .before .loop .inv .above) (c .before .before .before .before .before .before .before .before .before .before .loop .inv .below) (c .before .before .before .before .before .before .before .before .if1 .left))
+loop-less c = jump-between (c .before .before .before .before .before .before .before .before .before .before .before .before .before .before .pre) _ _ (c .before .before .before .before .before .before .before .before .before .before .loop .inv .above) (c .before .before .before .before .before .before .before .before .before .before .loop .inv .below) (c .before .before .before .before .before .before .before .before .wide .ensures) (omega (arith, c .before .before .before .before .before .before .before .if1 .left)) .1
 
 loop-again : tie.Need-loop-again Inv-loop μ-loop
-loop-again c = jump-on _ _ _ _ _ _ _ _ _ (c .before .before .before .before .before .before .before .before .before .before .loop .inv) (c .before .before .before .before .before .before .before .before .before .before .before .before .before .before .pre .falls) _ _ (c .before .before .before .before .before .before .before .wide .ensures) (c .before .before .before .before .before .before .gap .ensures) (c .before .before .before .before .before .before .before .before .if1 .left) (c .before .before .before .before .if2 .left) (c .before .before .before .before .before .before .before .before .before .before .before .before .before .before .pre .steps .enough) (jump-between (c .before .before .before .before .before .before .before .before .before .before .before .before .before .before .pre) _ (c .before .before .before .before .before .before .before .before .before .before .loop .inv .above) (c .before .before .before .before .before .before .before .before .before .before .loop .inv .below) (c .before .before .before .before .before .before .before .before .if1 .left)) _ (c .before .before .put .ensures)
+loop-again c = jump-on _ _ _ _ _ _ _ _ _ (c .before .before .before .before .before .before .before .before .before .before .loop .inv) (c .before .before .before .before .before .before .before .before .before .before .before .before .before .before .pre .falls) _ _ (c .before .before .before .before .before .before .before .before .wide .ensures) (c .before .before .before .before .before .before .gap .ensures) (omega (arith, c .before .before .before .before .before .before .before .if1 .left)) (c .before .before .before .before .if2 .left) (c .before .before .before .before .before .before .before .before .before .before .before .before .before .before .pre .steps .enough) (jump-between (c .before .before .before .before .before .before .before .before .before .before .before .before .before .before .pre) _ _ (c .before .before .before .before .before .before .before .before .before .before .loop .inv .above) (c .before .before .before .before .before .before .before .before .before .before .loop .inv .below) (c .before .before .before .before .before .before .before .before .wide .ensures) (omega (arith, c .before .before .before .before .before .before .before .if1 .left))) _ (c .before .before .put .ensures)
 
 same-length : tie.Need-same-length Inv-loop μ-loop
-same-length c = running-length _ _ _ _ (c .before .before .loop .inv .run)
+same-length c = running-length _ _ _ _ (c .before .before .before .loop .inv .run)
 
 returns : tie.Need-returns Inv-loop μ-loop
-returns c = jump-none _ _ _ _ _ _ _ _ _ (c .before .before .loop .inv) (c .if1 .taken)
+returns c = jump-none _ _ _ _ _ _ _ _ _ (c .before .before .before .loop .inv) _ (c .before .wide .ensures) (omega (arith, c .if1 .taken))
 
 same-length-2 : tie.Need-same-length-2 Inv-loop μ-loop
 same-length-2 c = running-length _ _ _ _ (c .before .before .before .before .before .before .loop .inv .run)
 
 returns-2 : tie.Need-returns-2 Inv-loop μ-loop
-returns-2 c = jump-near _ _ _ _ _ _ _ _ _ (c .before .before .before .before .before .before .loop .inv) _ _ (c .before .before .before .wide .ensures) (c .before .before .gap .ensures) (c .if2 .taken)
+returns-2 c = jump-near _ _ _ _ _ _ _ _ _ (c .before .before .before .before .before .before .loop .inv) _ _ (c .before .before .before .before .wide .ensures) (c .before .before .gap .ensures) (c .if2 .taken)
 
 pub jumps-spec : {M : Type 1} → statement M
 jumps-spec =
