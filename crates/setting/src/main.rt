@@ -1,10 +1,28 @@
-// Reads a job on standard input and prints its listing: document 01, "Job file and listing". The longest job that is set has 16,408
-// bytes, and the byte after those is told as left over, so that 16,409 bytes decide the answer.
+// Reads a job on standard input and prints its listing: document 01, "Job file and listing". All of the input is read. What is beyond the
+// buffer is left out: a job of more than 16,408 bytes is decided by any longer front (listing/specs/Given.antt, `listing-first`).
 use printer::print_listing;
 
+// Reads once, and answers whether something came.
+fn read_some() -> bool {
+    let mut space = io::large_buffer();
+    0 < io::read_full(0, &mut space)
+}
+
+// Reads the input to its end. A proved loop has to end, and nothing says that input does: the turns are counted down from a number that
+// no run uses up.
+fn drain() {
+    let mut turns = u64::MAX;
+    while 0 < turns && read_some() {
+        turns -= 1;
+    }
+}
+
 fn main() {
-    let mut space = [0u8; 16409];
+    let mut space = io::large_buffer();
     let n = io::read_full(0, &mut space);
+    if n == space.len() {
+        drain();
+    }
     let is_printed = print_listing(&space[..n]);
     if !is_printed {
         io::write_all(2, b"setting: the listing could not be written\n");
