@@ -1,5 +1,5 @@
 -- The rows of a paragraph's lines. Assumes nothing but what each law states.
-use Prim.Native.Nat.{ℕ, zero, suc, _+_, _-_, _*_, _≤_, _<_}
+use Prim.Native.Nat.{ℕ, zero, suc, _+_, _-_, _≤_, _<_}
 use mathlib.Core.Path.{_≡_, refl, ap, sym, _∙_}
 use mathlib.Core.Bool.{_&&_}
 use mathlib.Core.List.{List, [], _∷_, _++_}
@@ -20,7 +20,7 @@ use Rattle.strips.specs.Words.{length-sums, getD-sums}
 use Rattle.rows.specs.Rows.{digits, row}
 use Rattle.rows.specs.Puts.{Fits, Puts, going-fits-next, going-end, Along, along-next, along-more, along-end}
 use Rattle.listing.specs.Listing.{lineRow, lineRows}
-use Rattle.listing.specs.Asks.{Text, Line, LineAsks, LinesAsk}
+use Rattle.listing.specs.Asks.{LineAsks, LinesAsk}
 
 -- ---- the next start
 -- inside a list it makes no difference what stands outside
