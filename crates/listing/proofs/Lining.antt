@@ -1,5 +1,5 @@
 -- The rows of a paragraph's lines. Assumes nothing but what each law states.
-use Prim.Native.Nat.{ℕ, zero, suc, _+_, _-_, _*_, _≤_, _<_}
+use Prim.Native.Nat.{ℕ, zero, suc, _+_, _-_, _≤_, _<_}
 use mathlib.Core.Path.{_≡_, refl, ap, sym, _∙_}
 use mathlib.Core.Bool.{_&&_}
 use mathlib.Core.List.{List, [], _∷_, _++_}
@@ -13,14 +13,13 @@ use Rattle.paper.specs.declared.Limits.{Limits}
 use Rattle.paper.specs.Allowed.{Ranges, ranges}
 use Rattle.paper.specs.Paragraph.{end, line, penalty, charge}
 use Rattle.paper.specs.Scale.{upTo, upTo-le, upTo-bound, line-is}
-use Rattle.paper.specs.Strips.{sums}
 use Rattle.lines.specs.Held.{span}
 use Rattle.lines.specs.Asks.{Span}
 use Rattle.strips.specs.Words.{length-sums, getD-sums}
 use Rattle.rows.specs.Rows.{digits, row}
 use Rattle.rows.specs.Puts.{Fits, Puts, going-fits-next, going-end, Along, along-next, along-more, along-end}
 use Rattle.listing.specs.Listing.{lineRow, lineRows}
-use Rattle.listing.specs.Asks.{Text, Line, LineAsks, LinesAsk}
+use Rattle.listing.specs.Asks.{LineAsks, LinesAsk}
 
 -- ---- the next start
 -- inside a list it makes no difference what stands outside

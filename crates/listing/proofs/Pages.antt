@@ -1,6 +1,6 @@
 -- What the setter's answer for an index comes to in a listing, where every strip is long enough for every list. Assumes nothing but what
 -- each law states.
-use Prim.Native.Nat.{ℕ, zero, suc, _+_, _≤_, _<_}
+use Prim.Native.Nat.{ℕ, zero, suc, _≤_, _<_}
 use mathlib.Core.Path.{_≡_, refl, ap, sym, subst, _∙_}
 use mathlib.Core.List.{List, [], _∷_}
 use native.Mathlib.Omega.{arith}
@@ -14,7 +14,6 @@ use Rattle.paper.specs.declared.Answer.the-variants.{Set}
 use Rattle.paper.specs.declared.Checked.{Checked}
 use Rattle.paper.specs.declared.Checked.the-variants.{Accept, Refuse}
 use Rattle.paper.specs.Allowed.{pageLimitsHold, Passed}
-use Rattle.paper.specs.Paragraph.{end}
 use Rattle.paper.specs.Index.{index, best, boundaries}
 use Rattle.paper.specs.PointerRules.{pointerMoves}
 use Rattle.paper.specs.Right.{index-right}
@@ -28,7 +27,7 @@ use Rattle.listing.specs.Listing as Listing
 use Rattle.listing.specs.Listing.{refused, refusal, indexRows, indexListing}
 use Rattle.listing.specs.Promise.{Promise, outcome}
 use Rattle.listing.specs.Size.{setting-count, index-size}
-use Rattle.listing.specs.Asks.{Tells, Item, Items, PagesAsk}
+use Rattle.listing.specs.Asks.{Tells, Item, PagesAsk}
 use Rattle.listing.proofs.Settings.{Unset, set-not, all-long, roomy, front-is}
 
 -- ---- the boundaries of an admissible sequence are items

@@ -1,11 +1,11 @@
 -- A paragraph that is set is listed: its rows are what they ask for, and they are its listing. Assumes nothing but what each law states.
-use Prim.Native.Nat.{ℕ, zero, suc, _+_, _^_, _≤_, _<_}
-use mathlib.Core.Path.{_≡_, refl, ap, sym, subst, _∙_}
+use Prim.Native.Nat.{ℕ, zero, suc, _+_, _≤_, _<_}
+use mathlib.Core.Path.{_≡_, refl, ap, sym}
 use mathlib.Core.List.{List, [], _∷_}
 use native.Mathlib.Numerals.{add-one}
 use native.Mathlib.Omega.{arith}
 use lib.ListN.{length, getD, take, replicate, length-replicate}
-use Rattle.laws.specs.Strip.{over, length-over}
+use Rattle.laws.specs.Strip.{length-over}
 use Rattle.laws.specs.Setting.{Admissible}
 use Rattle.paper.specs.declared.Limits.{Limits}
 use Rattle.paper.specs.declared.Answer.{Answer}
@@ -17,12 +17,11 @@ use Rattle.paper.specs.Strips.{sums, ParagraphStrips, paragraphStrips, paragrap
 use Rattle.paper.specs.Told.{told}
 use Rattle.setter.specs.Promise.{ParagraphPromise}
 use Rattle.strips.specs.Words.{length-sums}
-use Rattle.rows.specs.Puts.{Fits}
 use Rattle.listing.specs.declared.Listed.{Listed}
 use Rattle.listing.specs.declared.refusal.Reason.{Reason}
 use Rattle.listing.specs.Listing.{refused, paragraphRows, paragraphListing}
 use Rattle.listing.specs.Promise.{Promise, outcome}
-use Rattle.listing.specs.Size.{mostBytes, setting-count, paragraph-size}
+use Rattle.listing.specs.Size.{setting-count, paragraph-size}
 use Rattle.listing.specs.Asks.{Tells, Line, Starts, RowsAsk}
 use Rattle.listing.proofs.Settings.{Unset, Lent, front-is, ParagraphGiven, paragraph-unset, paragraph-given}
 

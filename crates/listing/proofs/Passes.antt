@@ -1,7 +1,7 @@
 -- Rows that are put twice: first on no buffer, to count them, and then on the whole one where they have room. Assumes nothing.
 use Prim.Native.Nat.{ℕ, _^_, _≤_, _<_}
-use mathlib.Core.Path.{_≡_, refl, ap, sym, _∙_}
-use mathlib.Core.List.{List, [], _∷_, _++_}
+use mathlib.Core.Path.{_≡_, refl, ap}
+use mathlib.Core.List.{List, [], _++_}
 use native.Mathlib.Omega.{arith}
 use borrow.Author.Tests.{le-leb, lt-leb}
 use lib.ListN.{length}
@@ -14,7 +14,7 @@ use Rattle.job.specs.declared.Asked.the-variants.{Paragraph, Index}
 use Rattle.job.specs.declared.Job.{Job}
 use Rattle.job.specs.declared.Job.the-variants.{Read, Refused as JobRefused}
 use Rattle.job.specs.Promise.{toldJob}
-use Rattle.rows.specs.Rows.{ascii, digits, row}
+use Rattle.rows.specs.Rows.{ascii}
 use Rattle.rows.specs.Digits.{digits-width}
 use Rattle.rows.specs.Size.{row-two}
 use Rattle.rows.specs.Puts.{Fits, Puts, puts-counted, puts-over}

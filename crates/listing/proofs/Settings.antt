@@ -1,8 +1,8 @@
 -- What a setter's answer comes to in a listing, where every strip is long enough for every text. Assumes nothing but what each law states.
-use Prim.Native.Nat.{ℕ, zero, suc, _+_, _*_, _≤_, _<_}
+use Prim.Native.Nat.{ℕ, suc, _≤_}
 use mathlib.Core.Path.{_≡_, refl, ap, sym, subst, _∙_}
-use mathlib.Core.Logic.{_⊎_, ⊎-elim}
-use mathlib.Core.Bool.{Bool, true, false, not}
+use mathlib.Core.Logic.{⊎-elim}
+use mathlib.Core.Bool.{Bool}
 use mathlib.Core.List.{List, [], _∷_}
 use native.Mathlib.Omega.{arith}
 use borrow.Author.Tests.{lt-ltb, le-leb}
@@ -17,13 +17,13 @@ use Rattle.laws.specs.Strip.{over}
 use Rattle.paper.proofs.Answer.{the-type}
 use Rattle.paper.specs.declared.Limits.{Limits}
 use Rattle.paper.specs.declared.Answer.{Answer}
-use Rattle.paper.specs.declared.Answer.the-variants.{Set, None, Refused}
+use Rattle.paper.specs.declared.Answer.the-variants.{Set}
 use Rattle.paper.specs.declared.Checked.{Checked}
 use Rattle.paper.specs.declared.Checked.the-variants.{Accept, Refuse}
 use Rattle.paper.specs.Allowed.{mostWords, limitsHold, Passed}
 use Rattle.paper.specs.Paragraph.{best, breaks}
 use Rattle.paper.specs.QueueRules.{queueMoves}
-use Rattle.paper.specs.Told.{told, toldRefusal, checked, firstShort}
+use Rattle.paper.specs.Told.{told, checked, firstShort}
 use Rattle.paper.specs.Strips.{sums, ParagraphStrips, ParagraphOutcome, paragraphHas, paragraphNeeds, paragraphWritten, paragraphSet, paragraphChecked, paragraphOutcome}
 use Rattle.rules.specs.Accepted.{accepted}
 use Rattle.setter.specs.Promise.{ParagraphPromise}

@@ -16,7 +16,6 @@ use Rattle.paper.specs.Index.{item, boundaries}
 use Rattle.paper.specs.Told.{toldRefusal, checked}
 use Rattle.paper.specs.QueueRules.{queueMoves}
 use Rattle.paper.specs.PointerRules.{pointerMoves}
-use Rattle.job.specs.declared.Asked.{Asked}
 use Rattle.job.specs.declared.Asked.the-variants.{Paragraph as AskedParagraph, Index as AskedIndex}
 use Rattle.job.specs.Reader.{Reading, refuse, accept, reading}
 use Rattle.rows.specs.Rows.{ascii, digits, row}

@@ -1,7 +1,7 @@
 -- What the listing promises: the answer and every byte of the buffer, from the job's bytes alone; and that any two outcomes that satisfy
 -- the promise agree. Assumes nothing.
 use Prim.Native.Nat.{ℕ}
-use mathlib.Core.Path.{_≡_, refl, sym, _∙_}
+use mathlib.Core.Path.{_≡_, sym, _∙_}
 use mathlib.Core.List.{List}
 use lib.Dec.{leb}
 use lib.ListN.{length}

@@ -1,8 +1,8 @@
 -- No listing has more than 81,979 bytes. Assumes nothing but what each law states.
 use Prim.Native.Nat.{ℕ, zero, suc, _+_, _*_, _^_, _≤_, _<_}
-use mathlib.Core.Path.{_≡_, refl, ap, sym, subst, _∙_}
+use mathlib.Core.Path.{_≡_, refl}
 use mathlib.Core.Bool.{Bool, true, false, _&&_}
-use mathlib.Core.List.{List, [], _∷_, _++_}
+use mathlib.Core.List.{List, [], _∷_}
 use native.Mathlib.Omega.{arith}
 use lib.Dec.{T, leb, eqb, leb→le}
 use lib.ListN.{length, getD, length-append}
@@ -11,7 +11,7 @@ use Rattle.laws.specs.Cost.{some}
 use Rattle.laws.specs.Setting.{Problem, Choice, Admissible, admissible-early}
 use Rattle.paper.specs.declared.Limits.{Limits}
 use Rattle.paper.specs.declared.PageLimits.{PageLimits}
-use Rattle.paper.specs.Allowed.{limitsHold, pageLimitsHold, Passed, Ranges, ranges}
+use Rattle.paper.specs.Allowed.{limitsHold, pageLimitsHold, Passed, ranges}
 use Rattle.paper.specs.Paragraph.{end, line, admissible, penalty, charge, paragraph, best, breaks}
 use Rattle.paper.specs.Index as Index
 use Rattle.paper.specs.Index.{item, index, boundaries}
@@ -22,7 +22,7 @@ use Rattle.paper.specs.PointerRules.{pointerMoves}
 use Rattle.paper.specs.Right.{paragraph-right, index-right}
 use Rattle.queue_right.specs.Count.{at-most-2n}
 use Rattle.pointer_right.specs.Count.{pointer-count}
-use Rattle.rows.specs.Rows.{ascii, digits, row}
+use Rattle.rows.specs.Rows.{ascii, digits}
 use Rattle.rows.specs.Digits.{digits-width}
 use Rattle.rows.specs.Size.{row-one, row-two}
 use Rattle.listing.specs.Listing.{headed, around, lineRow, lineRows, paragraphRows, boundaryRow, boundaryRows, indexRows}

@@ -15,7 +15,7 @@ use Rattle.paper.specs.QueueRules as QueueRules
 use Rattle.paper.specs.QueueRules.{textOf, F, edge, chord, dropLong, popWorse, popBridged, add, consider, candidates, dropWorse, settled, queueMoves}
 use Rattle.paper.specs.PointerRules as PointerRules
 use Rattle.paper.specs.PointerRules.{pagesOf, steps, jumps, links, pointed, linked, pointerMoves}
-use Rattle.job.specs.Reader.{number, numbers, section, counted, toEnd, lengthsFrom, lengthsAfter, four, two, limitsFrom, reading}
+use Rattle.job.specs.Reader.{numbers, section, counted, toEnd, lengthsFrom, lengthsAfter, four, two, limitsFrom, reading}
 use Rattle.rows.specs.Rows.{ascii, digitsIn, digits, ended, row}
 use Rattle.listing.specs.Listing as Listing
 use Rattle.listing.specs.Listing.{refused, refusal, headed, around, lineRow, lineRows, paragraphRows, paragraphListing, boundaryRow, boundaryRows, indexRows, indexListing, listed, listingOf}

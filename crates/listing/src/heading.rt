@@ -1,6 +1,5 @@
 // The rows that stand first in a listing.
 use rows::named;
-ghost use mathlib.Core.List.{[], _∷_, _++_};
 ghost use Rattle.rows.specs.Puts.{Fits, Puts};
 ghost use Rattle.listing.specs.Listing.{headed};
 

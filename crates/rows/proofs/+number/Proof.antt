@@ -1,7 +1,6 @@
 -- `rows::number` meets its contract. The measure is the number, of which each call of itself has the digits but the last. Assumes nothing.
 use mathlib.Core.Path.{_∙_}
 use native.Mathlib.Omega.{arith}
-use borrow.Author.Needs.{needs}
 use Rattle.rows.specs.Puts.{puts-length}
 use Rattle.rows.proofs.Turns.{last-fits, last-put, before-fits, then-fits, then-put}
 use Prim.Native.Nat.{ℕ, _<_}

@@ -1,8 +1,7 @@
 -- `listing::line_rows` meets its contract. Assumes nothing.
 use native.Mathlib.Omega.{arith}
 use borrow.Author.Needs.{needs}
-use Prim.Native.Nat.{_+_, _-_}
-use mathlib.Core.Path.{_≡_, refl}
+use Prim.Native.Nat.{_-_}
 use lib.ListN.{length}
 use Rattle.rows.specs.Puts.{Along, along-first, going-length}
 use Rattle.listing.specs.Listing.{lineRows}
