@@ -13,7 +13,6 @@ use Rattle.paper.specs.declared.Limits.{Limits}
 use Rattle.paper.specs.Allowed.{Ranges, ranges}
 use Rattle.paper.specs.Paragraph.{end, line, penalty, charge}
 use Rattle.paper.specs.Scale.{upTo, upTo-le, upTo-bound, line-is}
-use Rattle.paper.specs.Strips.{sums}
 use Rattle.lines.specs.Held.{span}
 use Rattle.lines.specs.Asks.{Span}
 use Rattle.strips.specs.Words.{length-sums, getD-sums}

@@ -1,5 +1,4 @@
 -- `printer::print_listing` is safe: what is written lies in the buffer. Assumes nothing.
-use native.Mathlib.Omega.{arith}
 use mathlib.Core.Path.{sym}
 use borrow.Author.Needs.{needs}
 use lib.Seq.{length-take-le}
