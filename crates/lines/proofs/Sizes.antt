@@ -1,39 +1,27 @@
 -- Products that fit, and what the two tests of "bridged" come to on the strips. Assumes nothing.
 use Prim.Native.Nat.{ℕ, _+_, _-_, _*_, _^_, _≤_, _<_}
-use mathlib.Core.Path.{_≡_, ap, sym, _∙_}
+use mathlib.Core.Path.{_≡_}
 use mathlib.Core.List.{List}
 use native.Mathlib.Nat.{mul-le-mul}
 use native.Mathlib.Omega.{arith}
 use lib.Dec.{leb}
 use lib.ListN.{getD}
-use Rattle.laws.specs.Square.{sqd, sqd-up, sqd-comm}
+use Rattle.laws.specs.Square.{sqd}
 use Rattle.paper.specs.declared.Limits.{Limits}
+use Rattle.paper.specs.Allowed.{Ranges}
 use Rattle.paper.specs.Paragraph.{penalty}
 use Rattle.paper.specs.QueueRules.{F, edge, chord}
 use Rattle.lines.specs.Held.{span, textIn, value-number}
-use Rattle.lines.specs.Asks.{Inside, Numbered, Three, Apart, Products}
-
--- ---- squares
-pub apart-up : (x y : ℕ) → x ≤ y → Apart x y (y - x)
-apart-up x y h =
-    let e : x + (y - x) ≡ y = omega arith in
-    record { square = sym (sqd-up x (y - x)) ∙ ap (sqd x) e; small = omega arith }
-
-pub apart-down : (x y : ℕ) → y ≤ x → Apart x y (x - y)
-apart-down x y h =
-    let r = apart-up y x h in
-    record { square = r .square ∙ sqd-comm y x; small = omega (arith, r .small) }
+use Rattle.lines.proofs.Signed.{sqd-fits}
+use Rattle.lines.specs.Asks.{Inside, Numbered, Three, Products}
 
 -- ---- products
-pub square-fits : (d : ℕ) → d ≤ 16773120 → d * d ≤ 16773120 * 16773120
-square-fits d h = mul-le-mul h h
+pub penalty-fits : (l : Limits) → Ranges l → (x a s : ℕ) → x ≤ 16773120 → a ≡ l .a → s ≡ sqd x (l .lopt) → a * s ≤ 15 * (16773120 * 16773120)
+penalty-fits l r x a s h e f = rw (e, f) (mul-le-mul (r .a-high) (sqd-fits x (l .lopt) 16773120 h (omega arith)))
 
-pub penalty-fits : (a d : ℕ) → a ≤ 15 → d ≤ 16773120 → a * (d * d) ≤ 15 * (16773120 * 16773120)
-penalty-fits a d h k = mul-le-mul h (square-fits d k)
-
-pub penalty-is : (l : Limits) (x a d : ℕ) → a ≡ l .a → d * d ≡ sqd x (l .lopt) → a * (d * d) ≡ penalty l x
+pub penalty-is : (l : Limits) (x a s : ℕ) → a ≡ l .a → s ≡ sqd x (l .lopt) → a * s ≡ penalty l x
 unfolding penalty
-penalty-is l x a d e f = rw (e, f)
+penalty-is l x a s e f = rw (e, f)
 
 -- every product and sum of the second test
 pub record Fitting (a jk jn kn bj bk bn : ℕ) : Type 0 where

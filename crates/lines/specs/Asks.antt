@@ -1,9 +1,7 @@
 -- What the functions of this crate ask of their callers. Assumes nothing.
-use Prim.Native.Nat.{ℕ, _-_, _*_, _^_, max, _≤_, _<_}
-use mathlib.Core.Path.{_≡_}
+use Prim.Native.Nat.{ℕ, _-_, _^_, _≤_, _<_}
 use mathlib.Core.List.{List}
 use lib.ListN.{length, getD}
-use Rattle.laws.specs.Square.{sqd}
 use Rattle.paper.specs.declared.Limits.{Limits}
 use Rattle.paper.specs.Allowed.{Ranges}
 use Rattle.lines.specs.Held.{span}
@@ -48,11 +46,6 @@ pub record Three (l : Limits) (S B : List ℕ) (j k n : ℕ) : Type 0 where
   pub j-number : Numbered B j
   pub k-number : Numbered B k
   pub n-number : Numbered B n
-
--- r is how far x and y lie apart
-pub record Apart (x y r : ℕ) : Type 0 where
-  pub square : r * r ≡ sqd x y
-  pub small : r ≤ max x y
 
 -- numbers whose products the second test of "bridged" may take
 pub record Products (a jk jn kn bj bk bn : ℕ) : Type 0 where

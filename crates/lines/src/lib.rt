@@ -4,11 +4,12 @@ use paper::Limits;
 ghost use mathlib.Core.Path.{_≡_};
 ghost use Prim.Native.Nat.{_+_, _*_, _^_, _≤_, _<_};
 ghost use lib.Dec.{leb};
+ghost use Rattle.laws.specs.Square.{sqd};
 ghost use Rattle.paper.specs.Allowed.{Ranges};
 ghost use Rattle.paper.specs.Paragraph.{penalty as formula};
 ghost use Rattle.paper.specs.QueueRules.{F, edge as isEdge, chord as isChord, bridged as isBridged};
 ghost use Rattle.lines.specs.Held.{span, textIn};
-ghost use Rattle.lines.specs.Asks.{Span, Inside, Through, Three, Apart, Products};
+ghost use Rattle.lines.specs.Asks.{Span, Inside, Through, Three, Products};
 
 // "No setting" in the best strip: above every number.
 pub const NONE: u64 = 18446744073709551615;
@@ -33,10 +34,13 @@ pub fn line(sums: &[u32], i: usize, j: usize) -> u32
     sums[j - 1] - sums[i - 1]
 }
 
-fn apart(x: u32, y: u32) -> u32
-    ensures { λ r. ⌜ Apart x y r ⌝ }
+// (x - y)², by a signed difference: the machine need not find which of the two is the greater.
+fn square_apart(x: u32, y: u32) -> u64
+    requires { ⌜ (x ≤ 16773120) × (y ≤ 16773120) ⌝ }
+    ensures { λ r. ⌜ r ≡ sqd x y ⌝ }
 {
-    if x < y { y - x } else { x - y }
+    let d = x as i64 - y as i64;
+    (d * d) as u64
 }
 
 // The penalty formula, A·(x - lopt)².
@@ -44,9 +48,7 @@ pub fn penalty(l: Limits, x: u32) -> u64
     requires { ⌜ (Ranges l) × (x ≤ 16773120) ⌝ }
     ensures { λ r. ⌜ r ≡ formula l x ⌝ }
 {
-    let d = long(apart(x, l.lopt));
-    let a = long(l.a);
-    a * (d * d)
+    long(l.a) * square_apart(x, l.lopt)
 }
 
 // The same for a line inside the measure, where all rules ask it.
