@@ -1,15 +1,15 @@
--- One turn of a loop that looks for the first entry that fails. Assumes nothing.
+-- One turn of a loop that looks for the first entry that fails, or for whether any does. Assumes nothing.
 use Prim.Native.Nat.{ℕ, suc, _+_, _≤_, _<_}
 use mathlib.Core.Path.{_≡_}
-use mathlib.Core.Bool.{Bool, true, false}
+use mathlib.Core.Bool.{Bool, true, false, _&&_, and-true, and-false}
 use mathlib.Core.List.{List}
 use native.Mathlib.Numerals.{add-one}
-use borrow.Author.Tests.{le-leb, lt-leb}
-use lib.Dec.{leb}
+use native.Mathlib.Omega.{arith}
+use borrow.Author.Tests.{le-leb, lt-leb, ne-eqb}
+use lib.Dec.{leb, eqb}
 use lib.ListN.{length, getD, drop, drop-of-length-le}
 use lib.Seq.{drop-cons}
 use Rattle.laws.specs.Number.{when-true, when-false}
-use Rattle.paper.specs.Allowed.{lengthHolds}
 use Rattle.paper.specs.Told.{firstFailing, firstShort}
 
 -- where the loop stands at entry k, what is left to look for
@@ -28,6 +28,18 @@ module _ (ws : List ℕ) (k : ℕ) (ok : ℕ → Bool) where
   pub failing-never : length ws ≤ k → firstFailing ok (k + 1) (drop k ws) ≡ 0
   unfolding firstFailing
   failing-never h = rw (drop-of-length-le ws {i = k} h)
+
+-- where the loop stands at entry k, and `hold` says whether all before it held
+module _ (ws : List ℕ) (k : ℕ) (ok : ℕ → Bool) (hold : Bool) where
+  pub all-lost : k < length ws → ok (getD ws k 0) ≡ false → (hold && eqb (firstFailing ok (k + 1) (drop k ws)) 0) ≡ false
+  all-lost h e = rw (failing-here ws k ok h e, ne-eqb (k + 1) 0 (λ z. omega arith)) (and-false hold)
+
+  pub all-kept : k < length ws → ok (getD ws k 0) ≡ true →
+      (hold && eqb (firstFailing ok (k + 1) (drop k ws)) 0) ≡ (hold && eqb (firstFailing ok (k + 1 + 1) (drop (k + 1) ws)) 0)
+  all-kept h e = rw (failing-later ws k ok h e)
+
+  pub all-seen : length ws ≤ k → (hold && eqb (firstFailing ok (k + 1) (drop k ws)) 0) ≡ hold
+  all-seen h = rw (failing-never ws k ok h) (and-true hold)
 
 module _ (has needs : List ℕ) (k : ℕ) where
   pub short-here : k < length has → k < length needs → getD has k 0 < getD needs k 0 → firstShort (k + 1) (drop k has) (drop k needs) ≡ k + 1
@@ -48,15 +60,3 @@ module _ (has needs : List ℕ) (k : ℕ) where
   pub short-never : length has ≤ k → firstShort (k + 1) (drop k has) (drop k needs) ≡ 0
   unfolding firstShort
   short-never h = rw (drop-of-length-le has {i = k} h)
-
-pub nought-fails : (w : ℕ) → w < 1 → lengthHolds w ≡ false
-unfolding lengthHolds
-nought-fails w h = rw (lt-leb 1 w h)
-
-pub long-fails : (w : ℕ) → 1 ≤ w → 4095 < w → lengthHolds w ≡ false
-unfolding lengthHolds
-long-fails w h g = rw (le-leb 1 w h, lt-leb w 4095 g)
-
-pub between-holds : (w : ℕ) → 1 ≤ w → w ≤ 4095 → lengthHolds w ≡ true
-unfolding lengthHolds
-between-holds w h g = rw (le-leb 1 w h, le-leb w 4095 g)

@@ -4,7 +4,8 @@ use paper::Limits;
 use paper::PageLimits;
 use paper::Refusal;
 ghost use mathlib.Core.Path.{_≡_};
-ghost use Prim.Native.Nat.{_≤_, _+_};
+ghost use Prim.Native.Nat.{_≤_};
+ghost use lib.Dec.{eqb};
 ghost use lib.ListN.{length};
 ghost use Rattle.paper.specs.Allowed.{lengthHolds, limitsHold, pageLimitsHold};
 ghost use Rattle.paper.specs.Told.{firstFailing, firstShort, checked};
@@ -42,17 +43,37 @@ pub fn page_limits_hold(l: PageLimits) -> bool
     l.lmax <= 65535
 }
 
+fn length_holds(w: u32) -> bool
+    ensures { λ r. ⌜ r ≡ lengthHolds w ⌝ }
+{
+    if w < 1 {
+        return false;
+    }
+    w <= 4095
+}
+
+// Whether every length is allowed. No early exit, so that the compiler can take several words at a time.
+fn all_hold(lengths: &[u32]) -> bool
+    ensures { λ r. ⌜ r ≡ eqb (firstFailing lengthHolds 1 (now (lengths .entry))) 0 ⌝ }
+{
+    let mut hold = true;
+    let mut k = 0;
+    while k < lengths.len() {
+        if !length_holds(lengths[k]) {
+            hold = false;
+        }
+        k += 1;
+    }
+    hold
+}
+
 // The first word whose length is 0 or above 4,095, counted from 1; 0 where there is none.
 fn first_bad(lengths: &[u32]) -> usize
     ensures { λ r. ⌜ r ≡ firstFailing lengthHolds 1 (now (lengths .entry)) ⌝ }
 {
     let mut k = 0;
     while k < lengths.len() {
-        let w = lengths[k];
-        if w < 1 {
-            return k + 1;
-        }
-        if 4095 < w {
+        if !length_holds(lengths[k]) {
             return k + 1;
         }
         k += 1;
@@ -90,9 +111,8 @@ pub fn check(hold: bool, lengths: &[u32], has: &[usize], needs: &[usize]) -> Che
     if !hold {
         return Checked::Refuse(Refusal::Limits);
     }
-    let word = first_bad(lengths);
-    if word != 0 {
-        return Checked::Refuse(Refusal::Length(word));
+    if !all_hold(lengths) {
+        return Checked::Refuse(Refusal::Length(first_bad(lengths)));
     }
     let strip = first_short(has, needs);
     if strip != 0 {
