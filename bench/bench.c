@@ -1,8 +1,10 @@
 /* Times the library, its twin in C and the plain way in one process, on the same inputs.
  *
  * A row is a kind of list at one n. It has many different inputs, so that the branch predictor cannot learn them; each round sets
- * all of them in a new order with each engine in turn, and the turn rotates. The medians of the rounds are printed. Before a row is
- * timed, the engines' answers are compared. The strips are the same for all engines and are not cleared between settings. */
+ * all of them in a new order with each engine in turn, and the turn rotates. The medians of the rounds are printed: of each engine's
+ * time, and of the library's time by each other's in the same round, so that a machine that slows down for a while slows down both.
+ * Before a row is timed, the engines' answers are compared. The strips are the same for all engines and are not cleared between
+ * settings. */
 #define _POSIX_C_SOURCE 199309L
 #include "plain.h"
 #include "twin.h"
@@ -12,7 +14,7 @@
 #include <string.h>
 #include <time.h>
 
-enum { MOST = 4096, WORDS = 1 << 18, ROUNDS = 21, PLAIN_SHARE = 8 };
+enum { MOST = 4096, WORDS = 1 << 18, ROUNDS = 41, PLAIN_SHARE = 8 };
 enum { ENGINE, TWIN, PLAIN, TEXTWRAP, ENGINES };
 
 #ifdef WITH_TEXTWRAP
@@ -186,7 +188,12 @@ static int takes_part(const Row *row, int engine) {
     return engine != TEXTWRAP;
 }
 
-static void run_rounds(const Row *row, size_t n, double medians[ENGINES]) {
+typedef struct {
+    double ns[ENGINES];    /* a word, 0 where an engine takes no part */
+    double ratio[ENGINES]; /* the library's time by this engine's */
+} Medians;
+
+static Medians run_rounds(const Row *row, size_t n) {
     static double times[ENGINES][ROUNDS];
     static uint32_t order[WORDS / 64];
     size_t count = WORDS / n;
@@ -202,8 +209,17 @@ static void run_rounds(const Row *row, size_t n, double medians[ENGINES]) {
             times[engine][round] = timed(row, engine, n, order, engine == PLAIN || engine == TEXTWRAP ? count / PLAIN_SHARE : count);
         }
     }
-    for (int engine = 0; engine < ENGINES; engine++)
-        medians[engine] = takes_part(row, engine) ? median(times[engine], ROUNDS) : 0;
+    Medians medians = {0};
+    for (int engine = ENGINES - 1; engine >= 0; engine--) { /* the library last: taking a median sorts its times */
+        if (!takes_part(row, engine))
+            continue;
+        double ratios[ROUNDS];
+        for (int round = 0; round < ROUNDS; round++)
+            ratios[round] = times[ENGINE][round] / times[engine][round];
+        medians.ratio[engine] = median(ratios, ROUNDS);
+        medians.ns[engine] = median(times[engine], ROUNDS);
+    }
+    return medians;
 }
 
 static size_t nones(size_t n) {
@@ -220,22 +236,54 @@ static void print_head(void) {
 }
 
 static void run_row(const Row *row, size_t n) {
-    double ns[ENGINES];
     make_inputs(row, n);
     compare(row, n);
-    run_rounds(row, n, ns);
-    printf("%-30s %5zu %6zu %5zu | %8.2f %8.2f %9.2f | %12.2f %13.3f\n", row->name, n, WORDS / n, nones(n), ns[ENGINE], ns[TWIN],
-           ns[PLAIN], ns[ENGINE] / ns[TWIN], ns[ENGINE] / ns[PLAIN]);
-    if (ns[TEXTWRAP] > 0)
+    Medians m = run_rounds(row, n);
+    printf("%-30s %5zu %6zu %5zu | %8.2f %8.2f %9.2f | %12.2f %13.3f\n", row->name, n, WORDS / n, nones(n), m.ns[ENGINE], m.ns[TWIN],
+           m.ns[PLAIN], m.ratio[TWIN], m.ratio[PLAIN]);
+    if (m.ns[TEXTWRAP] > 0)
         printf("%-30s %5zu %6s %5s | %8s textwrap %9.2f | engine/textwrap %10.3f\n", "  textwrap's optimal fit", n, "", "", "",
-               ns[TEXTWRAP], ns[ENGINE] / ns[TEXTWRAP]);
+               m.ns[TEXTWRAP], m.ratio[TEXTWRAP]);
     fflush(stdout);
 }
 
-int main(void) {
+/* ---- for bench/count ---- */
+
+enum { ROWS = sizeof rows / sizeof *rows };
+
+/* A line for each row: its number, the function that sets it, the words of all its inputs, its name. */
+static void print_rows(size_t n) {
+    for (size_t row = 0; row < ROWS; row++)
+        printf("%zu\t%s\t%zu\t%s\n", row, rows[row].paged ? "set_index" : "set_paragraph", WORDS / n * n, rows[row].name);
+}
+
+/* Sets each input of a row once. */
+static void set_once(int engine, const Row *row, size_t n) {
+    make_inputs(row, n);
+    for (size_t k = 0; k < WORDS / n; k++)
+        sink += set(row, engine, &inputs[k], n).lines;
+}
+
+static void print_table(void) {
     print_head();
-    for (size_t row = 0; row < sizeof rows / sizeof *rows; row++)
+    for (size_t row = 0; row < ROWS; row++)
         for (size_t size = 0; size < sizeof sizes / sizeof *sizes; size++)
             run_row(&rows[row], sizes[size]);
+}
+
+/* With no words the table; `rows N` and `library|twin ROW N` are what bench/count asks. */
+int main(int count, char **words) {
+    size_t n = count > 1 ? strtoul(words[count - 1], NULL, 10) : MOST;
+    size_t row = count == 4 ? strtoul(words[2], NULL, 10) : 0;
+    if (n < 64 || n > MOST || row >= ROWS) {
+        fprintf(stderr, "bench: n is 64 to %d, a row is below %d\n", MOST, ROWS);
+        return 2;
+    }
+    if (count == 1)
+        print_table();
+    else if (count == 3)
+        print_rows(n);
+    else
+        set_once(strcmp(words[1], "twin") ? ENGINE : TWIN, &rows[row], n);
     return 0;
 }

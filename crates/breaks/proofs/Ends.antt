@@ -2,12 +2,12 @@
 use Prim.Native.Nat.{ℕ, _+_, _-_, _*_, _≤_, _<_}
 use mathlib.Core.Path.{_≡_, ap, sym, _∙_}
 use mathlib.Core.Logic.{⊎-elim}
-use mathlib.Core.List.{List, [], _∷_, _++_}
+use mathlib.Core.List.{List, [], _∷_, _++_, map}
 use native.Mathlib.Omega.{arith}
 use lib.ListN.{length, getD, set, length-set, length-append, List·getD-append}
 use lib.Seq.{slice, ext-getD, getD-set-same, getD-append-add}
 use Rattle.laws.specs.Number.{split}
-use Rattle.laws.specs.Strip.{over-nil}
+use Rattle.laws.specs.Strip.{over, over-nil}
 use Rattle.laws.specs.Cost.{some}
 use Rattle.laws.specs.Table as Table
 use Rattle.paper.specs.declared.Limits.{Limits}
@@ -15,11 +15,10 @@ use Rattle.paper.specs.declared.Move.{Move}
 use Rattle.paper.specs.Allowed.{limitsHold}
 use Rattle.paper.specs.Paragraph as Paragraph
 use Rattle.paper.specs.Paragraph.{end, chosenNext, paragraph}
-use Rattle.paper.specs.Moves.{Taken, still}
+use Rattle.paper.specs.Moves.{Taken, code, still}
 use Rattle.paper.specs.QueueRules.{Standing, afterStarts, queueMoves}
 use Rattle.paper.specs.Strips.{entries, bestEntry}
 use Rattle.paper.specs.Entries.{length-entries, getD-entries}
-use Rattle.strips.specs.Running.{written}
 use Rattle.strips.specs.Words.{wordsOf, holds-length}
 use Rattle.queue.specs.declared.Queue.{Queue}
 use Rattle.breaks.specs.Asks.{StartsAsk, Starts}
@@ -55,7 +54,7 @@ module _ (l : Limits) (S B N Q m : List ℕ) (a : StartsAsk l S B N Q m) where
   pub started-first : Started l S m Q (set B (length Q) 0) (set N (length Q) 0) m (record { front = 0; end = 0; candidate = length Q + 1; moves = 0 }) (length Q)
   started-first = record {
     low = omega (arith, many);
-    moves = sym (over-nil m) ∙ ap (λ (t : Taken Standing). written (t .moves) m) (sym begins);
+    moves = sym (over-nil m) ∙ ap (λ (t : Taken Standing). over (map code (t .moves)) m) (sym begins);
     count = ap (λ (t : Taken Standing). length (t .moves)) (sym begins);
     stands = ap (λ (t : Taken Standing). t .stands) begins;
     queued = record {
@@ -130,6 +129,6 @@ module _ (l : Limits) (S m₀ Q B N m : List ℕ) (q : Queue) (s : Started l S m
   started-done = record {
     best = all-bests;
     next = all-nexts;
-    moves = s .moves ∙ ap (λ (ms : List Move). written ms m₀) all-moves;
+    moves = s .moves ∙ ap (λ (ms : List Move). over (map code ms) m₀) all-moves;
     counted = s .count ∙ ap length all-moves;
   }

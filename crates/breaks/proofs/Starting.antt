@@ -9,7 +9,7 @@ use lib.ListN.{length, getD, take, drop, set, length-set, length-append, length-
 use lib.Seq.{slice, length-slice, getD-set-same, getD-set-other}
 use Rattle.laws.specs.Number.{split}
 use Rattle.laws.specs.Members.{every-map}
-use Rattle.laws.specs.Strip.{over, over-back, length-over, lent-is}
+use Rattle.laws.specs.Strip.{over, onward, over-onward, length-over, lent-is}
 use Rattle.paper.specs.declared.Limits.{Limits}
 use Rattle.paper.specs.Allowed.{limitsHold}
 use Rattle.paper.specs.Paragraph as Paragraph
@@ -19,7 +19,7 @@ use Rattle.paper.specs.QueueRules.{Standing, textOf, atStart, afterStarts, queu
 use Rattle.paper.specs.Strips.{bestEntry}
 use Rattle.queue_right.specs.Count.{afterStarts-count, moves-so-far}
 use Rattle.lines.specs.Held.{textIn}
-use Rattle.strips.specs.Running.{written, map-append, length-codes}
+use Rattle.strips.specs.Running.{Ran, ran-lent, map-append, length-codes}
 use Rattle.strips.specs.Words.{wordsOf, Holds, holds-length}
 use Rattle.queue.specs.declared.Queue.{Queue}
 use Rattle.queue.specs.Asks.{Member, Queued, StartAsks, Left}
@@ -33,7 +33,7 @@ soFar l ws i = afterStarts (textOf l ws) (length ws) (length ws - i)
 -- the starts down to i + 1 are done
 pub record Started (l : Limits) (S m₀ Q B N m : List ℕ) (q : Queue) (i : ℕ) : Type 0 where
   pub low : i ≤ length (wordsOf S)
-  pub moves : m ≡ written (soFar l (wordsOf S) i .moves) m₀
+  pub moves : m ≡ over (map code (soFar l (wordsOf S) i .moves)) m₀
   pub count : q .moves ≡ length (soFar l (wordsOf S) i .moves)
   pub stands : soFar l (wordsOf S) i .stands ≡ record { queue = slice (q .front) (q .end) Q; candidate = q .candidate }
   pub queued : Queued l S B (i + 1) Q (q .front) (q .end) (q .candidate)
@@ -58,21 +58,17 @@ module _ (l : Limits) (S m₀ : List ℕ) (holds : Holds (limitsHold l) S) (room
     started-length =
         ap length (s .moves) ∙ length-over (map code (soFar l ws i .moves)) m₀ (omega (arith, so-many, s .count, length-codes (soFar l ws i .moves)))
 
-    -- the part that is lent
-    part : length (take (length m - q .moves) (drop (q .moves) m)) ≡ length m₀ - q .moves
-    part = rw (lent-is m (q .moves)) (length-drop (q .moves) m ∙ ap (λ (k : ℕ). k - q .moves) started-length)
-
     pub started-room : q .moves ≤ length m₀
     started-room = omega (arith, so-many)
 
     module _ (first : 1 ≤ i) where
-      pub started-asks : StartAsks l i S B Q (q .front) (q .end) (q .candidate) (length (take (length m - q .moves) (drop (q .moves) m)))
+      pub started-asks : StartAsks l i S B Q (q .front) (q .end) (q .candidate) 0 (length (take (length m - q .moves) (drop (q .moves) m)))
       started-asks = record {
         words = done-words l S B i (s .bests);
         bests = done-bests l S B i (s .bests) first;
         queued = s .queued;
         first = first;
-        enough = rw part (omega (arith, count, stood, candidate, s .count, s .queued .near));
+        enough = rw (lent-is m (q .moves), length-drop (q .moves) m) (omega (arith, count, stood, candidate, s .count, s .queued .near, started-length));
       }
         where
           count : length (soFar l ws i .moves) + length (soFar l ws i .stands .queue) + 2 * soFar l ws i .stands .candidate ≤ 2 * (length ws + 1)
@@ -85,12 +81,18 @@ module _ (l : Limits) (S m₀ : List ℕ) (holds : Holds (limitsHold l) S) (room
           candidate = ap (λ (z : Standing). z .candidate) (s .stands)
 
       module _ (at : Queue) (Q′ n : List ℕ)
-          (left : Left l i S B (atStart (textIn l S B) i (record { queue = slice (q .front) (q .end) Q; candidate = q .candidate })) Q (take (length m - q .moves) (drop (q .moves) m)) at Q′ n) where
+          (left : Left l i S B (atStart (textIn l S B) i (record { queue = slice (q .front) (q .end) Q; candidate = q .candidate })) Q 0 (take (length m - q .moves) (drop (q .moves) m)) at Q′ n) where
         rule : atStart (textIn l S B) i (record { queue = slice (q .front) (q .end) Q; candidate = q .candidate }) ≡ queueAt l ws i
         rule = done-rules l S B i (s .bests) first (s .low) (record { queue = slice (q .front) (q .end) Q; candidate = q .candidate }) (s .stands)
 
+        -- in the whole strip the start went on from the present count
+        ran : Ran (atStart (textIn l S B) i (record { queue = slice (q .front) (q .end) Q; candidate = q .candidate })) (q .moves) m
+            (putMid (q .moves) (length m - q .moves) m n) (q .moves + at .moves) (record { queue = slice (at .front) (at .end) Q′; candidate = at .candidate })
+        ran = ran-lent (atStart (textIn l S B) i (record { queue = slice (q .front) (q .end) Q; candidate = q .candidate })) (q .moves) m n (at .moves)
+            (record { queue = slice (at .front) (at .end) Q′; candidate = at .candidate }) (omega (arith, started-room, started-length)) (left .ran)
+
         stands : queueAt l ws i .stands ≡ record { queue = slice (at .front) (at .end) Q′; candidate = at .candidate }
-        stands = ap (λ (t : Taken Standing). t .stands) (sym rule) ∙ left .stands
+        stands = ap (λ (t : Taken Standing). t .stands) (sym rule) ∙ ran .stands
 
         -- one start more
         further : soFar l ws (i - 1) ≡ joined (soFar l ws i) (atStart (textOf l ws) i)
@@ -104,21 +106,27 @@ module _ (l : Limits) (S m₀ : List ℕ) (holds : Holds (limitsHold l) S) (room
         unfolding queueAt
         more = ap (λ (t : Taken Standing). t .moves) further
 
-        pub started-more : q .moves + at .moves ≡ length (soFar l ws (i - 1) .moves)
-        started-more =
-            ap (λ (k : ℕ). k + at .moves) (s .count)
-            ∙ ap (λ (k : ℕ). length (soFar l ws i .moves) + k) (left .count ∙ ap (λ (t : Taken Standing). length (t .moves)) rule)
+        counted : q .moves + at .moves ≡ length (soFar l ws (i - 1) .moves)
+        counted =
+            ran .count
+            ∙ ap (λ (t : Taken Standing). q .moves + length (t .moves)) rule
+            ∙ ap (λ (k : ℕ). k + length (queueAt l ws i .moves)) (s .count)
             ∙ sym (ap length more ∙ length-append (soFar l ws i .moves) (queueAt l ws i .moves))
 
         pub started-fits : q .moves + at .moves ≤ length m₀
-        started-fits = omega (arith, started-more, moves-so-far l ws (holds .passed) (length ws - (i - 1)) (omega (arith, s .low)))
+        started-fits = omega (arith, counted, moves-so-far l ws (holds .passed) (length ws - (i - 1)) (omega (arith, s .low)))
+
+        written : putMid (q .moves) (length m - q .moves) m n ≡ over (map code (soFar l ws (i - 1) .moves)) m₀
+        written =
+            ran .moves
+            ∙ ap (λ (t : Taken Standing). onward (q .moves) (map code (t .moves)) m) rule
+            ∙ ap (onward (q .moves) (map code (queueAt l ws i .moves))) (s .moves)
+            ∙ over-onward (map code (soFar l ws i .moves)) (map code (queueAt l ws i .moves)) m₀ (q .moves) (s .count ∙ sym (length-codes (soFar l ws i .moves)))
+            ∙ ap (λ (c : List ℕ). over c m₀) (sym (ap (map code) more ∙ map-append (soFar l ws i .moves) (queueAt l ws i .moves)))
 
         pub started-settle : SettleAsks l i S Q′ at B N
         started-settle = record {
-          words = done-words l S B i (s .bests);
-          queued = left .queued;
-          first = first;
-          early = omega (arith, sized, s .low);
+          choose = record { words = done-words l S B i (s .bests); queued = left .queued; first = first; early = omega (arith, sized, s .low) };
           nexts = s .next-size;
         }
 
@@ -169,11 +177,8 @@ module _ (l : Limits) (S m₀ : List ℕ) (holds : Holds (limitsHold l) S) (room
               let u = left .queued in
               record {
                 low = omega (arith, s .low);
-                moves =
-                    over-back (map code (soFar l ws i .moves)) (map code (queueAt l ws i .moves)) m₀ m n (q .moves) (s .moves) (s .count ∙ sym (length-codes (soFar l ws i .moves)))
-                    (left .moves ∙ ap (λ (t : Taken Standing). written (t .moves) (take (length m - q .moves) (drop (q .moves) m))) rule)
-                    ∙ ap (λ (c : List ℕ). over c m₀) (sym (ap (map code) more ∙ map-append (soFar l ws i .moves) (queueAt l ws i .moves)));
-                count = started-more;
+                moves = written;
+                count = counted;
                 stands = ap (λ (t : Taken Standing). t .stands) further ∙ after-start;
                 queued = rw e (record {
                   order = u .order;

@@ -1,20 +1,22 @@
 -- What a start takes, and what the functions of this crate ask and leave. Assumes nothing.
 use Prim.Native.Nat.{ℕ, _+_, _-_, _*_, _^_, _≤_, _<_}
 use mathlib.Core.Path.{_≡_}
-use mathlib.Core.List.{List, [], _∷_, _++_}
+use mathlib.Core.List.{List, [], _∷_, _++_, map}
 use lib.Dec.{leb}
 use lib.ListN.{length, set}
 use Rattle.laws.specs.Number.{if}
+use Rattle.laws.specs.Strip.{over}
 use Rattle.paper.specs.declared.Limits.{Limits}
 use Rattle.paper.specs.declared.Answer.{Answer}
 use Rattle.paper.specs.Allowed.{limitsHold, Passed}
+use Rattle.paper.specs.Moves.{code}
 use Rattle.paper.specs.Paragraph as Paragraph
 use Rattle.paper.specs.QueueRules.{Text, F, front, queueMoves}
 use Rattle.paper.specs.Strips.{entries, bestEntry, ParagraphStrips, ParagraphOutcome}
-use Rattle.strips.specs.Running.{written}
 use Rattle.strips.specs.Words.{Holds}
 use Rattle.queue.specs.declared.Queue.{Queue}
 use Rattle.queue.specs.Asks.{Words, Queued}
+use Rattle.breaks.specs.declared.Chosen.{Chosen}
 
 -- ---- "Then the start takes n+1 if Line(i, n+1) ≤ lopt; otherwise the front is the chooser; with an empty queue there is no setting."
 abbrev pub frontBest : Text → ℕ → List ℕ → ℕ
@@ -28,11 +30,18 @@ takenBest t e i q = if (leb (t .line i e) (t .limits .lopt)) 0 (frontBest t i q)
 unfoldable pub takenNext : Text → ℕ → ℕ → List ℕ → ℕ
 takenNext t e i q = if (leb (t .line i e) (t .limits .lopt)) e (front q)
 
-pub record SettleAsks (l : Limits) (i : ℕ) (S Q : List ℕ) (q : Queue) (B N : List ℕ) : Type 0 where
+pub record ChooseAsks (l : Limits) (i : ℕ) (S B Q : List ℕ) (q : Queue) : Type 0 where
   pub words : Words l S B
   pub queued : Queued l S B i Q (q .front) (q .end) (q .candidate)
   pub first : 1 ≤ i
   pub early : i < length S
+
+pub record Chooses (t : Text) (e i : ℕ) (q : List ℕ) (r : Chosen) : Type 0 where
+  pub cost : r .cost ≡ takenBest t e i q
+  pub next : r .next ≡ takenNext t e i q
+
+pub record SettleAsks (l : Limits) (i : ℕ) (S Q : List ℕ) (q : Queue) (B N : List ℕ) : Type 0 where
+  pub choose : ChooseAsks l i S B Q q
   pub nexts : length N ≡ length S
 
 pub record Settles (t : Text) (e i : ℕ) (q B N B′ N′ : List ℕ) : Type 0 where
@@ -51,7 +60,7 @@ pub record StartsAsk (l : Limits) (S B N Q m : List ℕ) : Type 0 where
 pub record Starts (l : Limits) (ws m₀ : List ℕ) (count : ℕ) (B N m : List ℕ) : Type 0 where
   pub best : B ≡ entries (λ i. bestEntry (Paragraph.best l ws i)) 1 (length ws + 1)
   pub next : N ≡ entries (Paragraph.chosenNext l ws) 1 (length ws) ++ (0 ∷ [])
-  pub moves : m ≡ written (queueMoves l ws) m₀
+  pub moves : m ≡ over (map code (queueMoves l ws)) m₀
   pub counted : count ≡ length (queueMoves l ws)
 
 -- ---- the whole, on strips that may be longer

@@ -14,11 +14,43 @@ ghost use lib.ListN.{length};
 ghost use lib.Seq.{slice};
 ghost use Rattle.lines.specs.Held.{textIn};
 ghost use Rattle.strips.specs.Words.{wordsOf};
-ghost use Rattle.breaks.specs.Asks.{SettleAsks, Settles, StartsAsk, Starts, SetAsks, Sets};
+ghost use Rattle.breaks.specs.Asks.{ChooseAsks, Chooses, SettleAsks, Settles, StartsAsk, Starts, SetAsks, Sets};
 ghost use Rattle.paper.specs.Paragraph.{best as bestOf};
 ghost use Rattle.paper.specs.Strips.{paragraphStrips, paragraphSet};
 
-// Writes the best and the chosen next of start i: the end, the front, or none.
+// The best of a start and its chosen next.
+pub struct Chosen {
+    pub cost: u64,
+    pub next: u32,
+}
+
+// "Then the start takes n+1 if Line(i, n+1) ≤ lopt; otherwise the front is the chooser; with an empty queue there is no setting."
+fn choose(l: Limits, i: usize, sums: &[u32], best: &[u64], queue: &[u32], q: Queue) -> Chosen
+    requires { ⌜ ChooseAsks l i (now sums) (now best) (now queue) q ⌝ }
+    ensures { λ r. ⌜ Chooses (textIn l (now (sums .entry)) (now (best .entry))) (length (now (sums .entry))) i (slice (q .front) (q .end) (now (queue .entry))) r ⌝ }
+{
+    let end = sums.len();
+    if line(sums, i, end) <= l.lopt {
+        return Chosen {
+            cost: 0,
+            next: end as u32,
+        };
+    }
+    let front = q.front;
+    if q.end <= front {
+        return Chosen {
+            cost: NONE,
+            next: 0,
+        };
+    }
+    let j = queue[front];
+    Chosen {
+        cost: through(l, sums, best, i, wide(j)),
+        next: j,
+    }
+}
+
+// Writes the best and the chosen next of start i.
 fn settle(
     l: Limits,
     i: usize,
@@ -31,22 +63,9 @@ fn settle(
     requires { ⌜ SettleAsks l i (now sums) (now queue) q (now best) (now next) ⌝ }
     ensures { λ _. ⌜ Settles (textIn l (now (sums .entry)) (now (best .entry))) (length (now (sums .entry))) i (slice (q .front) (q .end) (now (queue .entry))) (now (best .entry)) (now (next .entry)) (now (best .exit)) (now (next .exit)) ⌝ }
 {
-    let end = sums.len();
-    if line(sums, i, end) <= l.lopt {
-        best[i - 1] = 0;
-        next[i - 1] = end as u32;
-        return;
-    }
-    let front = q.front;
-    if front < q.end {
-        let j = queue[front];
-        let cost = through(l, sums, best, i, wide(j));
-        best[i - 1] = cost;
-        next[i - 1] = j;
-        return;
-    }
-    best[i - 1] = NONE;
-    next[i - 1] = 0;
+    let chosen = choose(l, i, sums, best, queue, q);
+    best[i - 1] = chosen.cost;
+    next[i - 1] = chosen.next;
 }
 
 // All starts, from n down to 1, on strips that are exactly long enough. Answers the number of moves.

@@ -1,17 +1,21 @@
--- A strip is a list that the caller lends. What is written is written at its front, and the rest stays as it was; a part may
--- be lent on from the middle and comes back. Over entries of any type. Assumes nothing.
-use mathlib.Core.Path.{_≡_, refl, ap, _∙_}
+-- A strip is a list that the caller lends. What is written is written at its front, or from a place on, and the rest stays as it
+-- was; a part may be lent on from the middle and comes back. Over entries of any type. Assumes nothing.
+use mathlib.Core.Path.{_≡_, refl, ap, sym, _∙_}
 use mathlib.Core.List.{List, [], _∷_, _++_, append-assoc}
 use Prim.Native.Nat.{ℕ, _+_, _-_, _≤_, _<_}
+use borrow.Rule.Slice.PartMut.{putMid}
 use native.Mathlib.Numerals.{add-one}
 use native.Mathlib.Omega.{arith}
-use lib.ListN.{length, getD, take, drop, set, length-append, length-drop, drop-of-length-le, List·getD-append}
-use lib.Seq.{drop-cons, set-append-seam, take-all, take-at, drop-at, drop-drop, getD-drop, getD-append-add}
-use borrow.Rule.Slice.PartMut.{putMid}
+use lib.ListN.{length, getD, take, drop, set, length-append, length-drop, take-append-drop, drop-of-length-le, List·getD-append}
+use lib.Seq.{drop-cons, set-append-seam, take-all, take-at, drop-drop, drop-append-add, length-take-le, getD-drop, getD-append-add}
 
 -- xs at the front of the strip s, which keeps what stands past them
 unfoldable pub over : {A : Type 0} → List A → List A → List A
 over xs s = xs ++ drop (length xs) s
+
+-- xs from place c of the strip s on, which keeps what stands before and past them
+unfoldable pub onward : {A : Type 0} → ℕ → List A → List A → List A
+onward c xs s = over (take c s ++ xs) s
 
 pub append-nil : {A : Type 0} (l : List A) → l ++ [] ≡ l
 append-nil [] = refl
@@ -39,16 +43,46 @@ module _ {A : Type 0} where
   unfolding over
   over-nil s = refl
 
-  -- written twice, the second as long: the second stands
-  pub over-over : (xs ys s : List A) → length xs ≡ length ys → over ys (over xs s) ≡ over ys s
-  unfolding over
-  over-over xs ys s e = ap (λ (t : List A). ys ++ t) (drop-at xs (drop (length xs) s) (length ys) e ∙ ap (λ (k : ℕ). drop k s) e)
-
   -- one more entry is written after those at the front
   pub over-set : (xs s : List A) (a : A) (k : ℕ) → k ≡ length xs → length xs < length s → set (over xs s) k a ≡ over (xs ++ (a ∷ [])) s
   unfolding over
   over-set xs s a k e h =
       rw (e, drop-cons s (length xs) a h, set-append-seam) (rw (length-append, append-assoc, add-one) refl)
+
+  -- ---- from a place on
+  -- after xs at the front come ys
+  pub over-onward : (xs ys s : List A) (k : ℕ) → k ≡ length xs → onward k ys (over xs s) ≡ over (xs ++ ys) s
+  unfolding over onward
+  over-onward xs ys s k e =
+      rw e
+      (simp (take-at xs (drop (length xs) s) (length xs) refl, length-append, drop-append-add, drop-drop))
+
+  pub onward-zero : (xs s : List A) → onward 0 xs s ≡ over xs s
+  unfolding onward
+  onward-zero xs s = refl
+
+  pub onward-nil : (c : ℕ) (s : List A) → c ≤ length s → onward c [] s ≡ s
+  unfolding over onward
+  onward-nil c s h = rw (append-nil (take c s), length-take-le c s h) (take-append-drop c s)
+
+  module _ (c : ℕ) (xs s : List A) (h : c ≤ length s) where
+    place : length (take c s ++ xs) ≡ c + length xs
+    place = length-append (take c s) xs ∙ ap (λ (k : ℕ). k + length xs) (length-take-le c s h)
+
+    pub length-onward : c + length xs ≤ length s → length (onward c xs s) ≡ length s
+    unfolding onward
+    length-onward room = length-over (take c s ++ xs) s (omega (arith, place))
+
+    pub onward-onward : (ys : List A) (k : ℕ) → k ≡ c + length xs → onward k ys (onward c xs s) ≡ onward c (xs ++ ys) s
+    unfolding onward
+    onward-onward ys k e = over-onward (take c s ++ xs) ys s k (e ∙ sym place) ∙ ap (λ (l : List A). over l s) (append-assoc (take c s) xs ys)
+
+    -- one more entry
+    pub onward-set : (a : A) (k : ℕ) → k ≡ c + length xs → k < length s → set (onward c xs s) k a ≡ onward c (xs ++ (a ∷ [])) s
+    unfolding onward
+    onward-set a k e room =
+        over-set (take c s ++ xs) s a k (e ∙ sym place) (omega (arith, place))
+        ∙ ap (λ (l : List A). over l s) (append-assoc (take c s) xs (a ∷ []))
 
   -- ---- a part lent from the middle
   -- what `&mut s[a..]` lends
@@ -56,16 +90,14 @@ module _ {A : Type 0} where
   lent-is s a = take-all (length s - a) (drop a s) (omega (arith, length-drop a s))
 
   -- what stands when the part t comes back
-  pub back-is : (s t : List A) (a : ℕ) → putMid a (length s - a) s t ≡ take a s ++ t
+  back-is : (s t : List A) (a : ℕ) → putMid a (length s - a) s t ≡ take a s ++ t
   back-is s t a = rw (drop-of-length-le (drop a s) {i = length s - a} (omega (arith, length-drop a s)), append-nil t)
 
-  over-lent : (ws vs s : List A) → take (length ws) (over ws s) ++ over vs (drop (length ws) (over ws s)) ≡ over (ws ++ vs) s
-  unfolding over
-  over-lent ws vs s =
-      simp (take-at ws (drop (length ws) s) (length ws) refl, drop-at ws (drop (length ws) s) (length ws) refl, drop-drop, length-append, append-assoc)
-
-  -- The part after ws was lent and came back with vs at its front: the whole has both at its front.
-  pub over-back : (ws vs m₀ m₁ m₂ : List A) (a : ℕ) → m₁ ≡ over ws m₀ → a ≡ length ws → m₂ ≡ over vs (take (length m₁ - a) (drop a m₁)) →
-      putMid a (length m₁ - a) m₁ m₂ ≡ over (ws ++ vs) m₀
-  over-back ws vs m₀ m₁ m₂ a e₁ e₂ e₃ =
-      back-is m₁ m₂ a ∙ ap (λ (t : List A). take a m₁ ++ t) (e₃ ∙ ap (over vs) (lent-is m₁ a)) ∙ (rw (e₁, e₂) (over-lent ws vs m₀))
+  -- The part from place c on was lent and came back with xs at its front: the whole has them from place c on.
+  pub onward-back : (c : ℕ) (xs s t : List A) → c ≤ length s → t ≡ onward 0 xs (take (length s - c) (drop c s)) →
+      putMid c (length s - c) s t ≡ onward c xs s
+  unfolding over onward
+  onward-back c xs s t h e =
+      back-is s t c
+      ∙ ap (λ (l : List A). take c s ++ l) (e ∙ ap (λ (l : List A). xs ++ drop (length xs) l) (lent-is s c))
+      ∙ simp (place c xs s h, drop-drop, append-assoc)

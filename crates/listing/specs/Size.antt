@@ -1,12 +1,9 @@
 -- How many bytes the rows of a setting have: at most 81,979. Assumes nothing but what each law states.
 use Prim.Native.Nat.{ℕ, zero, suc, _+_, _*_, _^_, _≤_, _<_}
 use mathlib.Core.Path.{_≡_, refl}
-use mathlib.Core.Bool.{Bool, true, false, _&&_}
 use mathlib.Core.List.{List, [], _∷_}
 use native.Mathlib.Omega.{arith}
-use lib.Dec.{T, leb, eqb, leb→le}
 use lib.ListN.{length, getD, length-append}
-use Rattle.laws.specs.Number.{if, both}
 use Rattle.laws.specs.Cost.{some}
 use Rattle.laws.specs.Setting.{Problem, Choice, Admissible, admissible-early}
 use Rattle.paper.specs.declared.Limits.{Limits}
@@ -16,7 +13,7 @@ use Rattle.paper.specs.Paragraph.{end, line, admissible, penalty, charge, parag
 use Rattle.paper.specs.Index as Index
 use Rattle.paper.specs.Index.{item, index, boundaries}
 use Rattle.paper.specs.Scale.{length-holds}
-use Rattle.paper.specs.Bound.{penalty-bound, paragraph-bound, index-bound}
+use Rattle.paper.specs.Bound.{admissible-lmax, charge-bound, paragraph-bound, index-bound}
 use Rattle.paper.specs.QueueRules.{queueMoves}
 use Rattle.paper.specs.PointerRules.{pointerMoves}
 use Rattle.paper.specs.Right.{paragraph-right, index-right}
@@ -68,33 +65,16 @@ unfolding lineRows
 one-more l ws i js = length-append (lineRow l ws i (getD js 0 (end ws))) (lineRows l ws js)
 
 module _ (l : Limits) (ws : List ℕ) (passed : Passed (limitsHold l) ws) where
-  -- an admissible line is at most lmax, and costs less than 2^28
-  measured : (i j : ℕ) → T (admissible l ws i j) → line ws i j ≤ l .lmax
-  unfolding admissible
-  measured i j t = go (eqb j (end ws)) t
-    where
-      go : (b : Bool) → T (if b (leb (line ws i j) (l .lmax)) (leb (l .lmin) (line ws i j) && leb (line ws i j) (l .lmax))) → line ws i j ≤ l .lmax
-      go true t = leb→le (line ws i j) (l .lmax) t
-      go false t = leb→le (line ws i j) (l .lmax) (both (leb (l .lmin) (line ws i j)) (leb (line ws i j) (l .lmax)) t .1)
-
-  charged : (i j : ℕ) → line ws i j ≤ l .lmax → charge l ws i j < 2 ^ 28
-  unfolding charge
-  charged i j h = go (eqb j (end ws) && leb (line ws i j) (l .lopt))
-    where
-      go : (b : Bool) → if b 0 (penalty l (line ws i j)) < 2 ^ 28
-      go true = omega arith
-      go false = penalty-bound l (ranges l (passed .limits)) (line ws i j) h
-
   line-size : (i j : ℕ) → Choice (paragraph l ws) i j → length (lineRow l ws i j) ≤ 20
   unfolding paragraph lineRow
   line-size i j c =
-      let m : line ws i j ≤ l .lmax = measured i j (c .admissible) in
+      let m : line ws i j ≤ l .lmax = admissible-lmax l ws i j (c .admissible) in
       omega (
         arith,
         row-two (digits i) (line ws i j) (charge l ws i j),
         wide4 i (omega (arith, c .rises, c .within, passed .few)),
         wide4 (line ws i j) (omega (arith, ranges l (passed .limits) .lmax-high)),
-        digits-width 9 (charge l ws i j) (omega (arith, charged i j m)) (omega arith),
+        digits-width 9 (charge l ws i j) (omega (arith, charge-bound l (ranges l (passed .limits)) ws i j m)) (omega arith),
       )
 
   lines-size : (i : ℕ) (js : List ℕ) → Admissible (paragraph l ws) i js → length (lineRows l ws (i ∷ js)) ≤ 20 + 20 * length js

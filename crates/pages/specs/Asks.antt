@@ -1,16 +1,16 @@
 -- What the functions of the index engine ask of their callers, and what each leaves. Assumes nothing.
 use Prim.Native.Nat.{ℕ, _+_, _*_, _≤_}
 use mathlib.Core.Path.{_≡_}
-use mathlib.Core.List.{List, [], _∷_, _++_}
+use mathlib.Core.List.{List, [], _∷_, _++_, map}
 use lib.ListN.{length}
 use Rattle.laws.specs.Strip.{over}
 use Rattle.paper.specs.declared.PageLimits.{PageLimits}
 use Rattle.paper.specs.declared.Answer.{Answer}
 use Rattle.paper.specs.Allowed.{pageLimitsHold, Passed}
 use Rattle.paper.specs.Index as Index
+use Rattle.paper.specs.Moves.{code}
 use Rattle.paper.specs.PointerRules.{pointerMoves}
 use Rattle.paper.specs.Strips.{entries, sums, bestEntry, leftEntry, rightEntry, IndexStrips, IndexOutcome, indexSet}
-use Rattle.strips.specs.Running.{written}
 use Rattle.strips.specs.Words.{Holds}
 
 -- ---- the part used of each strip, as 01 says it
@@ -42,7 +42,7 @@ pub record AllStarted (l : PageLimits) (ws m₀ : List ℕ) (taken : ℕ) (B N L
   pub next : N ≡ nextsOf l ws
   pub left : L ≡ leftsOf l ws
   pub right : R ≡ rightsOf l ws
-  pub moves : m ≡ written (pointerMoves l ws) m₀
+  pub moves : m ≡ over (map code (pointerMoves l ws)) m₀
   pub count : taken ≡ length (pointerMoves l ws)
 
 -- ---- the strips
@@ -63,7 +63,7 @@ pub record Filled (l : PageLimits) (ws S₀ B₀ N₀ L₀ R₀ m₀ : List ℕ)
   pub next : N ≡ over (nextsOf l ws) N₀
   pub left : L ≡ over (leftsOf l ws) L₀
   pub right : R ≡ over (rightsOf l ws) R₀
-  pub moves : m ≡ written (pointerMoves l ws) m₀
+  pub moves : m ≡ over (map code (pointerMoves l ws)) m₀
   pub count : taken ≡ length (pointerMoves l ws)
 
 -- a list that refusals 1 to 5 pass

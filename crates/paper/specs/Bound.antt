@@ -12,7 +12,6 @@ use Rattle.laws.specs.Number.{if, both, all, split}
 use Rattle.laws.specs.Cost.{some}
 use Rattle.laws.specs.Square.{sqd}
 use Rattle.laws.specs.Setting.{Best, best-bound}
-use Rattle.laws.specs.Table as Table
 use Rattle.paper.specs.declared.Limits.{Limits}
 use Rattle.paper.specs.declared.PageLimits.{PageLimits}
 use Rattle.paper.specs.Paragraph as Paragraph
@@ -42,7 +41,7 @@ penalty-bound l r x h =
     (split x (l .lopt))
 
 -- every admissible line is at most lmax
-admissible-lmax : (l : Limits) (ws : List ℕ) (i j : ℕ) → T (admissible l ws i j) → line ws i j ≤ l .lmax
+pub admissible-lmax : (l : Limits) (ws : List ℕ) (i j : ℕ) → T (admissible l ws i j) → line ws i j ≤ l .lmax
 unfolding admissible
 admissible-lmax l ws i j t = go (eqb j (end ws)) t
   where
@@ -50,20 +49,21 @@ admissible-lmax l ws i j t = go (eqb j (end ws)) t
     go true t = leb→le (line ws i j) (l .lmax) t
     go false t = leb→le (line ws i j) (l .lmax) (both (leb (l .lmin) (line ws i j)) (leb (line ws i j) (l .lmax)) t .1)
 
-charge-bound : (l : Limits) → Ranges l → (ws : List ℕ) (i j : ℕ) → line ws i j ≤ l .lmax → charge l ws i j ≤ 2 ^ 28 - 1
+-- and costs less than 2^28
+pub charge-bound : (l : Limits) → Ranges l → (ws : List ℕ) (i j : ℕ) → line ws i j ≤ l .lmax → charge l ws i j < 2 ^ 28
 unfolding charge
 charge-bound l r ws i j h = go (eqb j (end ws) && leb (line ws i j) (l .lopt))
   where
-    go : (b : Bool) → if b 0 (penalty l (line ws i j)) ≤ 2 ^ 28 - 1
+    go : (b : Bool) → if b 0 (penalty l (line ws i j)) < 2 ^ 28
     go true = omega arith
-    go false = omega (arith, penalty-bound l r (line ws i j) h)
+    go false = penalty-bound l r (line ws i j) h
 
 pub paragraph-bound : (l : Limits) → Ranges l → (ws : List ℕ) → length ws ≤ 4096 → (i v : ℕ) → 1 ≤ i → i ≤ end ws →
     Paragraph.best l ws i ≡ some v → v < 2 ^ 40
 unfolding paragraph
 paragraph-bound l r ws few i v low high e =
     let b : Best (paragraph l ws) i (some v) = subst (Best (paragraph l ws) i) e (best-paragraph l ws i high) in
-    let t : v ≤ (end ws - i) * (2 ^ 28 - 1) = best-bound (paragraph l ws) (2 ^ 28 - 1) (λ j k ch. charge-bound l r ws j k (admissible-lmax l ws j k (ch .admissible))) (λ c n. omega arith) refl i v high b in
+    let t : v ≤ (end ws - i) * (2 ^ 28 - 1) = best-bound (paragraph l ws) (2 ^ 28 - 1) (λ j k ch. omega (arith, charge-bound l r ws j k (admissible-lmax l ws j k (ch .admissible)))) (λ c n. omega arith) refl i v high b in
     let m : end ws - i ≤ 4096 = omega arith in
     omega (arith, mul-le-mul-right (2 ^ 28 - 1) m)
 

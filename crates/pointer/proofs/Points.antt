@@ -1,10 +1,9 @@
--- The steps, and then the jumps in the part of the moves strip that is left. Assumes nothing.
-use Prim.Native.Nat.{ℕ, suc, _+_, _-_, _≤_, _<_}
+-- The steps, and then the jumps, which go on in the moves strip where the steps end. Assumes nothing.
+use Prim.Native.Nat.{ℕ, suc, _≤_, _<_}
 use mathlib.Core.Path.{_≡_, subst}
 use mathlib.Core.List.{List}
 use native.Mathlib.Omega.{arith}
-use borrow.Rule.Slice.PartMut.{putMid}
-use lib.ListN.{length, take, drop}
+use lib.ListN.{length}
 use Rattle.paper.specs.declared.PageLimits.{PageLimits}
 use Rattle.paper.specs.Moves.{Taken}
 use Rattle.paper.specs.PointerRules.{pagesOf, steps, jumps, pointed}
@@ -20,36 +19,38 @@ steps-between l ws i =
     (λ r h above. (above, omega arith))
     (λ r t h rest above. let b = rest (omega (arith, step-above l ws i (suc r) above h)) in (b .0, omega (arith, b .1)))
 
-pub point-steps : (l : PageLimits) (i : ℕ) (S left : List ℕ) (r room : ℕ) → JumpsAsk (pointed (pagesIn l S) i left r) l i S left r room →
-    StepsAsk (steps (pagesIn l S) i r) l i S r room
-unfolding pointed
-point-steps l i S left r room a = record {
-  held = a .steps .held;
-  above = a .steps .above;
-  within = a .steps .within;
-  enough = joined-first (steps (pagesIn l S) i r) (λ q. jumps (pagesIn l S) i left q q) room (a .steps .enough);
-}
-
-module _ (l : PageLimits) (i : ℕ) (S left : List ℕ) (r : ℕ) (m₀ : List ℕ) (a : JumpsAsk (pointed (pagesIn l S) i left r) l i S left r (length m₀)) where
+module _ (l : PageLimits) (i : ℕ) (S left : List ℕ) (r c : ℕ) where
   abbrev then : ℕ → Taken ℕ
   then q = jumps (pagesIn l S) i left q q
 
-  module _ (m : List ℕ) (taken q : ℕ) (ran : Ran (steps (pagesIn l S) i r) m₀ m taken q) where
-    pub point-room : length m ≡ length m₀ → (taken ≤ length m) × (length (then q .moves) ≤ length (take (length m - taken) (drop taken m)))
-    unfolding pointed
-    point-room = joined-room (steps (pagesIn l S) i r) then m₀ m taken q ran (a .steps .enough)
+  pub point-steps : (room : ℕ) → JumpsAsk (pointed (pagesIn l S) i left r) l i S left r c room → StepsAsk (steps (pagesIn l S) i r) l i S r c room
+  unfolding pointed
+  point-steps room a = record {
+    held = a .steps .held;
+    above = a .steps .above;
+    within = a .steps .within;
+    enough = joined-first (steps (pagesIn l S) i r) then c room (a .steps .enough);
+  }
 
-    pub point-jumps : length m ≡ length m₀ → JumpsAsk (then q) l i S left q (length (take (length m - taken) (drop taken m)))
+  -- the steps came to q
+  module _ (m₀ : List ℕ) (a : JumpsAsk (pointed (pagesIn l S) i left r) l i S left r c (length m₀)) (m : List ℕ) (taken q : ℕ)
+      (ran : Ran (steps (pagesIn l S) i r) c m₀ m taken q) where
+    pub point-jumps : length m ≡ length m₀ → JumpsAsk (then q) l i S left q taken (length m)
+    unfolding pointed
     point-jumps kept =
         let b = subst (λ (z : ℕ). (i < z) × (z ≤ r)) (ran .stands) (steps-between l _ i r (a .steps .above)) in
         record {
-          steps = record { held = a .steps .held; above = b .0; within = omega (arith, b .1, a .steps .within); enough = point-room kept .1 };
+          steps = record {
+            held = a .steps .held;
+            above = b .0;
+            within = omega (arith, b .1, a .steps .within);
+            enough = omega (arith, joined-room (steps (pagesIn l S) i r) then c m₀ m taken q ran (a .steps .enough));
+          };
           size = a .size;
           falls = a .falls;
           from = a .from;
         }
 
-    pub point-done : (t : List ℕ) (more w : ℕ) → Ran (then q) (take (length m - taken) (drop taken m)) t more w →
-        Ran (pointed (pagesIn l S) i left r) m₀ (putMid taken (length m - taken) m t) (taken + more) w
+    pub point-done : (n : List ℕ) (k w : ℕ) → Ran (then q) taken m n k w → Ran (pointed (pagesIn l S) i left r) c m₀ n k w
     unfolding pointed
-    point-done = joined-ran (steps (pagesIn l S) i r) then m₀ m taken q ran
+    point-done n k w = joined-ran (steps (pagesIn l S) i r) then c m₀ m taken q ran n k w (omega (arith, a .steps .enough))

@@ -1,10 +1,9 @@
--- One start: the pointer, the choice, and the links in the part of the moves strip that is left. Assumes nothing.
-use Prim.Native.Nat.{ℕ, zero, suc, _+_, _-_, _≤_}
+-- One start: the pointer, the choice, and the links, which go on in the moves strip where the pointer's moves end. Assumes nothing.
+use Prim.Native.Nat.{ℕ, zero, suc, _+_, _≤_}
 use mathlib.Core.Path.{_≡_, subst, _∙_}
 use mathlib.Core.List.{List, []}
 use native.Mathlib.Omega.{arith}
-use borrow.Rule.Slice.PartMut.{putMid}
-use lib.ListN.{length, take, drop, length-append}
+use lib.ListN.{length, length-append}
 use Rattle.paper.specs.declared.PageLimits.{PageLimits}
 use Rattle.paper.specs.Moves.{Taken}
 use Rattle.paper.specs.PointerRules.{pagesOf, links, Pointing, pointed, linked, atStart}
@@ -13,7 +12,7 @@ use Rattle.pointer_right.specs.Choice.{Choosing, ready-choosing}
 use Rattle.strips.specs.Running.{Ran, joined-first, joined-room, joined-ran}
 use Rattle.pointer.specs.Held.{Bests, bests-more}
 use Rattle.strips.specs.Words.{wordsOf, sums-size}
-use Rattle.pointer.specs.Asks.{pagesIn, JumpsAsk, LinksAsk, SettleAsk, StartAsk, Joins, Settled, Started}
+use Rattle.pointer.specs.Asks.{pagesIn, JumpsAsk, JoinAsk, SettleAsk, StartAsk, Joins, Settled, Started}
 
 -- the links are all the moves of a start past 0
 linked-moves : (l : PageLimits) (ws : List ℕ) (i : ℕ) (left right : List ℕ) (r : ℕ) → 1 ≤ i →
@@ -33,18 +32,18 @@ module _ (l : PageLimits) (i : ℕ) (S B N : List ℕ) (s : Pointing) where
   abbrev then : ℕ → Taken Pointing
   then = linked (pagesIn l S) (length ws) i (s .left) (s .right)
 
-  module _ (room : ℕ) (a : StartAsk l i S B N s room) where
+  module _ (c room : ℕ) (a : StartAsk l i S B N s c room) where
     size : length S ≡ length ws + 1
     size = sums-size S ws (a .held .is)
 
-    pub start-points : JumpsAsk points l i S (s .left) (s .pointer) room
+    pub start-points : JumpsAsk points l i S (s .left) (s .pointer) c room
     unfolding atStart
     start-points = record {
       steps = record {
         held = a .held;
         above = a .ready .above;
         within = omega (arith, a .ready .within, size);
-        enough = joined-first points then room (a .enough);
+        enough = joined-first points then c room (a .enough);
       };
       size = omega (arith, a .ready .left-length, size);
       falls = ready-falls l ws i s (a .ready);
@@ -73,32 +72,34 @@ module _ (l : PageLimits) (i : ℕ) (S B N : List ℕ) (s : Pointing) where
     pub start-bests : (C M : List ℕ) → Settled l ws i B N C M → Bests l ws C i
     start-bests C M e = bests-more l ws B C i (omega (arith, a .low, size)) (e .best) (a .bests)
 
-  module _ (m₀ : List ℕ) (a : StartAsk l i S B N s (length m₀)) (m : List ℕ) (taken q : ℕ) (ran : Ran points m₀ m taken q) where
-    pub start-room : length m ≡ length m₀ → (taken ≤ length m) × (length (then q .moves) ≤ length (take (length m - taken) (drop taken m)))
+  module _ (c : ℕ) (m₀ : List ℕ) (a : StartAsk l i S B N s c (length m₀)) (m : List ℕ) (taken q : ℕ) (ran : Ran points c m₀ m taken q) where
+    links-room : taken + length (then q .moves) ≤ length m₀
     unfolding atStart
-    start-room = joined-room points then m₀ m taken q ran (a .enough)
+    links-room = joined-room points then c m₀ m taken q ran (a .enough)
 
     module _ (C M : List ℕ) (settled : Settled l ws i B N C M) where
-      pub start-joins : length m ≡ length m₀ → 1 ≤ i → LinksAsk i C (s .left) (s .right) (length (take (length m - taken) (drop taken m)))
-      start-joins kept pos =
-          let b = start-bests (length m₀) a C M settled in
-          record {
-            limits = l;
-            words = ws;
-            bests = b;
-            low = omega (arith, a .low, size (length m₀) a);
-            left-size = omega (arith, a .ready .left-length, b .size);
-            right-size = omega (arith, a .ready .right-length, b .size);
-            rises = λ k h g. let r = ready-rises l ws i s (a .ready) k h (omega (arith, b .size)) in (r .0, omega (arith, r .1, b .size));
-            enough = omega (arith, linked-moves l ws i (s .left) (s .right) q pos, start-room kept .1);
-          }
+      pub start-joins : length m ≡ length m₀ → JoinAsk i C (s .left) (s .right) taken (length m)
+      start-joins kept = record {
+        links = λ pos.
+            let b = start-bests c (length m₀) a C M settled in
+            record {
+              limits = l;
+              words = ws;
+              bests = b;
+              low = omega (arith, a .low, size c (length m₀) a);
+              left-size = omega (arith, a .ready .left-length, b .size);
+              right-size = omega (arith, a .ready .right-length, b .size);
+              rises = λ k h g. let r = ready-rises l ws i s (a .ready) k h (omega (arith, b .size)) in (r .0, omega (arith, r .1, b .size));
+              enough = omega (arith, linked-moves l ws i (s .left) (s .right) q pos, links-room);
+            };
+        began = omega (arith, links-room);
+      }
 
-      pub start-done : (t : List ℕ) (more : ℕ) (left right : List ℕ) →
-          Joins i C (s .left) (s .right) (take (length m - taken) (drop taken m)) more left right t →
-          Started l ws i s B N m₀ q (taken + more) C M left right (putMid taken (length m - taken) m t)
+      pub start-done : (n : List ℕ) (k : ℕ) (left right : List ℕ) → Joins i C (s .left) (s .right) taken m k left right n →
+          Started l ws i s B N c m₀ q k C M left right n
       unfolding atStart
-      start-done t more left right joins = record {
-        ran = joined-ran points then m₀ m taken q ran t more (record { pointer = q; left = left; right = right })
-            (joins l ws q (start-bests (length m₀) a C M settled));
+      start-done n k left right joins = record {
+        ran = joined-ran points then c m₀ m taken q ran n k (record { pointer = q; left = left; right = right }) (omega (arith, a .enough))
+            (joins l ws q (start-bests c (length m₀) a C M settled));
         settled = settled;
       }

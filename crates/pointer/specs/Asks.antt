@@ -27,22 +27,22 @@ pub record GapAsk (S : List ℕ) (a b : ℕ) : Type 0 where
   pub order : a < b
   pub within : b ≤ length S
 
--- an index r after start i, and room for a rule's moves
-pub record StepsAsk (rule : Taken ℕ) (l : PageLimits) (i : ℕ) (S : List ℕ) (r room : ℕ) : Type 0 where
+-- an index r after start i, and room for a rule's moves from place c on
+pub record StepsAsk (rule : Taken ℕ) (l : PageLimits) (i : ℕ) (S : List ℕ) (r c room : ℕ) : Type 0 where
   pub held : Holds (pageLimitsHold l) S
   pub above : i < r
   pub within : r ≤ length S
-  pub enough : length (rule .moves) ≤ room
+  pub enough : c + length (rule .moves) ≤ room
 
 -- and left entries that are smaller than their index, and after start i
-pub record JumpsAsk (rule : Taken ℕ) (l : PageLimits) (i : ℕ) (S left : List ℕ) (r room : ℕ) : Type 0 where
-  pub steps : StepsAsk rule l i S r room
+pub record JumpsAsk (rule : Taken ℕ) (l : PageLimits) (i : ℕ) (S left : List ℕ) (r c room : ℕ) : Type 0 where
+  pub steps : StepsAsk rule l i S r c room
   pub size : length left ≡ length S + 1
   pub falls : (k : ℕ) → 0 < entryAt left k → entryAt left k < k
   pub from : (k : ℕ) → i < k → k ≤ length S → 0 < entryAt left k → i < entryAt left k
 
--- the bests of a text from start i on, right entries that are larger than their index, and room for the links
-pub record LinksAsk (i : ℕ) (B left right : List ℕ) (room : ℕ) : Type 0 where
+-- the bests of a text from start i on, right entries that are larger than their index, and room for the links from place c on
+pub record LinksAsk (i : ℕ) (B left right : List ℕ) (c room : ℕ) : Type 0 where
   pub limits : PageLimits
   pub words : List ℕ
   pub bests : Bests limits words B i
@@ -50,7 +50,12 @@ pub record LinksAsk (i : ℕ) (B left right : List ℕ) (room : ℕ) : Type 0 wh
   pub left-size : length left ≡ length B
   pub right-size : length right ≡ length B
   pub rises : (k : ℕ) → i < k → k + 1 < length B → (k < entryAt right k) × (entryAt right k < length B)
-  pub enough : length (links (pagesOf limits words) i right (length words) (suc i) left .moves) ≤ room
+  pub enough : c + length (links (pagesOf limits words) i right (length words) (suc i) left .moves) ≤ room
+
+-- what the links ask, for i from 1 on only: at 0 nothing is linked, and the place c stays
+pub record JoinAsk (i : ℕ) (B left right : List ℕ) (c room : ℕ) : Type 0 where
+  pub links : 1 ≤ i → LinksAsk i B left right c room
+  pub began : c ≤ room
 
 -- a start
 pub record OwnAsk (S : List ℕ) (i : ℕ) : Type 0 where
@@ -71,27 +76,27 @@ pub record SettleAsk (l : PageLimits) (i : ℕ) (S B N : List ℕ) (r : ℕ) : T
   pub next-size : length N ≡ length S + 1
   pub choosing : Choosing l (wordsOf S) i r
 
--- what stands before start i, and room for its moves
-pub record StartAsk (l : PageLimits) (i : ℕ) (S B N : List ℕ) (s : Pointing) (room : ℕ) : Type 0 where
+-- what stands before start i, and room for its moves from place c on
+pub record StartAsk (l : PageLimits) (i : ℕ) (S B N : List ℕ) (s : Pointing) (c room : ℕ) : Type 0 where
   pub held : Holds (pageLimitsHold l) S
   pub low : i < length S
   pub ready : Ready l (wordsOf S) i s
   pub bests : Bests l (wordsOf S) B (suc i)
   pub next-size : length N ≡ length S + 1
-  pub enough : length (atStart (pagesIn l S) (length (wordsOf S)) i s .moves) ≤ room
+  pub enough : c + length (atStart (pagesIn l S) (length (wordsOf S)) i s .moves) ≤ room
 
 -- ---- left
 -- the linking of start i came to the index k, in each text whose bests the strip holds
-pub record Joined (i : ℕ) (B left₀ right m₀ : List ℕ) (k taken : ℕ) (left m : List ℕ) : Type 0 where
+pub record Joined (i : ℕ) (B left₀ right : List ℕ) (c : ℕ) (m₀ : List ℕ) (k taken : ℕ) (left m : List ℕ) : Type 0 where
   pub ran : (l : PageLimits) (ws : List ℕ) → Bests l ws B i →
-      Ran (links (pagesOf l ws) i right (length ws) (suc i) left₀) m₀ m taken (record { reached = k; left = left })
+      Ran (links (pagesOf l ws) i right (length ws) (suc i) left₀) c m₀ m taken (record { reached = k; left = left })
   pub within : k < length B
 
 -- and the k reached became the right of i
-abbrev pub Joins : ℕ → List ℕ → List ℕ → List ℕ → List ℕ → ℕ → List ℕ → List ℕ → List ℕ → Type 0
-Joins i B left₀ right₀ m₀ taken left right m =
+abbrev pub Joins : ℕ → List ℕ → List ℕ → List ℕ → ℕ → List ℕ → ℕ → List ℕ → List ℕ → List ℕ → Type 0
+Joins i B left₀ right₀ c m₀ taken left right m =
     (l : PageLimits) (ws : List ℕ) (r : ℕ) → Bests l ws B i →
-    Ran (linked (pagesOf l ws) (length ws) i left₀ right₀ r) m₀ m taken (record { pointer = r; left = left; right = right })
+    Ran (linked (pagesOf l ws) (length ws) i left₀ right₀ r) c m₀ m taken (record { pointer = r; left = left; right = right })
 
 -- the best and the chosen next of start i are entered
 pub record Settled (l : PageLimits) (ws : List ℕ) (i : ℕ) (B₀ N₀ B N : List ℕ) : Type 0 where
@@ -99,6 +104,6 @@ pub record Settled (l : PageLimits) (ws : List ℕ) (i : ℕ) (B₀ N₀ B N : L
   pub next : N ≡ set N₀ i (Index.chosenNext l ws i)
 
 -- the rules of start i came to the pointer r
-pub record Started (l : PageLimits) (ws : List ℕ) (i : ℕ) (s : Pointing) (B₀ N₀ m₀ : List ℕ) (r taken : ℕ) (B N left right m : List ℕ) : Type 0 where
-  pub ran : Ran (atStart (pagesOf l ws) (length ws) i s) m₀ m taken (record { pointer = r; left = left; right = right })
+pub record Started (l : PageLimits) (ws : List ℕ) (i : ℕ) (s : Pointing) (B₀ N₀ : List ℕ) (c : ℕ) (m₀ : List ℕ) (r taken : ℕ) (B N left right m : List ℕ) : Type 0 where
+  pub ran : Ran (atStart (pagesOf l ws) (length ws) i s) c m₀ m taken (record { pointer = r; left = left; right = right })
   pub settled : Settled l ws i B₀ N₀ B N

@@ -7,15 +7,14 @@ use paper::Move;
 use paper::PageLimits;
 use strips::put;
 ghost use mathlib.Core.Path.{_≡_};
-ghost use Prim.Native.Nat.{_≤_};
 ghost use lib.ListN.{length};
 ghost use Rattle.paper.specs.Index.{gap as isGap, item};
 ghost use Rattle.paper.specs.PointerRules.{steps as isSteps, jumps as isJumps, pointed, chooser};
 ghost use Rattle.strips.specs.Running.{Ran};
 ghost use Rattle.strips.specs.Words.{wordsOf};
-ghost use Rattle.pointer.specs.Asks.{pagesIn, GapAsk, StepsAsk, JumpsAsk, LinksAsk, ChoiceAsk, SettleAsk, StartAsk, OwnAsk, Joined, Joins, Settled, Started};
+ghost use Rattle.pointer.specs.Asks.{pagesIn, GapAsk, StepsAsk, JumpsAsk, LinksAsk, ChoiceAsk, SettleAsk, StartAsk, OwnAsk, JoinAsk, Joined, Joins, Settled, Started};
 
-// The index that a rule came to, and the moves taken.
+// The index that a rule came to, and the moves taken so far.
 pub struct Reached {
     pub at: usize,
     pub moves: usize,
@@ -30,12 +29,19 @@ fn gap(sums: &[u32], a: usize, b: usize) -> u32
 }
 
 // "Step r to r-1 while Gap(i, r) > lmax".
-fn steps(l: PageLimits, i: usize, sums: &[u32], r: usize, moves: &mut [u32]) -> Reached
-    requires { ⌜ StepsAsk (isSteps (pagesIn l (now sums)) i r) l i (now sums) r (length (now moves)) ⌝ }
-    ensures { λ p. ⌜ Ran (isSteps (pagesIn l (now (sums .entry))) i r) (now (moves .entry)) (now (moves .exit)) (p .moves) (p .at) ⌝ }
+fn steps(
+    l: PageLimits,
+    i: usize,
+    sums: &[u32],
+    r: usize,
+    moves: &mut [u32],
+    count: usize,
+) -> Reached
+    requires { ⌜ StepsAsk (isSteps (pagesIn l (now sums)) i r) l i (now sums) r count (length (now moves)) ⌝ }
+    ensures { λ p. ⌜ Ran (isSteps (pagesIn l (now (sums .entry))) i r) count (now (moves .entry)) (now (moves .exit)) (p .moves) (p .at) ⌝ }
 {
     let mut at = r;
-    let mut taken = 0;
+    let mut taken = count;
     while l.lmax < gap(sums, i, at) {
         at -= 1;
         put(
@@ -59,12 +65,13 @@ fn jumps(
     left: &[u32],
     r: usize,
     moves: &mut [u32],
+    count: usize,
 ) -> Reached
-    requires { ⌜ JumpsAsk (isJumps (pagesIn l (now sums)) i (now left) r r) l i (now sums) (now left) r (length (now moves)) ⌝ }
-    ensures { λ p. ⌜ Ran (isJumps (pagesIn l (now (sums .entry))) i (now (left .entry)) r r) (now (moves .entry)) (now (moves .exit)) (p .moves) (p .at) ⌝ }
+    requires { ⌜ JumpsAsk (isJumps (pagesIn l (now sums)) i (now left) r r) l i (now sums) (now left) r count (length (now moves)) ⌝ }
+    ensures { λ p. ⌜ Ran (isJumps (pagesIn l (now (sums .entry))) i (now (left .entry)) r r) count (now (moves .entry)) (now (moves .exit)) (p .moves) (p .at) ⌝ }
 {
     let mut at = r;
-    let mut taken = 0;
+    let mut taken = count;
     loop {
         let entry = left[at];
         let to = wide(entry);
@@ -88,7 +95,7 @@ fn jumps(
     Reached { at, moves: taken }
 }
 
-// The steps, then the jumps, which are lent the rest of the moves.
+// The steps, then the jumps, which go on where the steps' moves end.
 fn point(
     l: PageLimits,
     i: usize,
@@ -96,27 +103,30 @@ fn point(
     left: &[u32],
     r: usize,
     moves: &mut [u32],
+    count: usize,
 ) -> Reached
-    requires { ⌜ JumpsAsk (pointed (pagesIn l (now sums)) i (now left) r) l i (now sums) (now left) r (length (now moves)) ⌝ }
-    ensures { λ p. ⌜ Ran (pointed (pagesIn l (now (sums .entry))) i (now (left .entry)) r) (now (moves .entry)) (now (moves .exit)) (p .moves) (p .at) ⌝ }
+    requires { ⌜ JumpsAsk (pointed (pagesIn l (now sums)) i (now left) r) l i (now sums) (now left) r count (length (now moves)) ⌝ }
+    ensures { λ p. ⌜ Ran (pointed (pagesIn l (now (sums .entry))) i (now (left .entry)) r) count (now (moves .entry)) (now (moves .exit)) (p .moves) (p .at) ⌝ }
 {
-    let stepped = steps(l, i, sums, r, moves);
-    let taken = stepped.moves;
-    let jumped = jumps(l, i, sums, left, stepped.at, &mut moves[taken..]);
-    Reached {
-        at: jumped.at,
-        moves: taken + jumped.moves,
-    }
+    let stepped = steps(l, i, sums, r, moves, count);
+    jumps(l, i, sums, left, stepped.at, moves, stepped.moves)
 }
 
 // "from k = i+1, while best k > best i, Link k (its left becomes i) and go on at the right of k".
-fn links(i: usize, best: &[u64], left: &mut [u32], right: &[u32], moves: &mut [u32]) -> Reached
-    requires { ⌜ LinksAsk i (now best) (now left) (now right) (length (now moves)) ⌝ }
-    ensures { λ p. ⌜ Joined i (now (best .entry)) (now (left .entry)) (now (right .entry)) (now (moves .entry)) (p .at) (p .moves) (now (left .exit)) (now (moves .exit)) ⌝ }
+fn links(
+    i: usize,
+    best: &[u64],
+    left: &mut [u32],
+    right: &[u32],
+    moves: &mut [u32],
+    count: usize,
+) -> Reached
+    requires { ⌜ LinksAsk i (now best) (now left) (now right) count (length (now moves)) ⌝ }
+    ensures { λ p. ⌜ Joined i (now (best .entry)) (now (left .entry)) (now (right .entry)) count (now (moves .entry)) (p .at) (p .moves) (now (left .exit)) (now (moves .exit)) ⌝ }
 {
     let own = best[i];
     let mut k = i + 1;
-    let mut taken = 0;
+    let mut taken = count;
     while best[k] > own {
         left[k] = i as u32;
         put(
@@ -136,15 +146,22 @@ fn links(i: usize, best: &[u64], left: &mut [u32], right: &[u32], moves: &mut [u
     }
 }
 
-// "Then, for i ≥ 1 only": the links, and "the k reached becomes the right of i". Answers the number of moves.
-fn join(i: usize, best: &[u64], left: &mut [u32], right: &mut [u32], moves: &mut [u32]) -> usize
-    requires { ⌜ (1 ≤ i → LinksAsk i (now best) (now left) (now right) (length (now moves))) ⌝ }
-    ensures { λ r. ⌜ Joins i (now (best .entry)) (now (left .entry)) (now (right .entry)) (now (moves .entry)) r (now (left .exit)) (now (right .exit)) (now (moves .exit)) ⌝ }
+// "Then, for i ≥ 1 only": the links, and "the k reached becomes the right of i". Answers the moves taken so far.
+fn join(
+    i: usize,
+    best: &[u64],
+    left: &mut [u32],
+    right: &mut [u32],
+    moves: &mut [u32],
+    count: usize,
+) -> usize
+    requires { ⌜ JoinAsk i (now best) (now left) (now right) count (length (now moves)) ⌝ }
+    ensures { λ r. ⌜ Joins i (now (best .entry)) (now (left .entry)) (now (right .entry)) count (now (moves .entry)) r (now (left .exit)) (now (right .exit)) (now (moves .exit)) ⌝ }
 {
     if i == 0 {
-        return 0;
+        return count;
     }
-    let reached = links(i, best, left, right, moves);
+    let reached = links(i, best, left, right, moves, count);
     right[i] = reached.at as u32;
     reached.moves
 }
@@ -191,7 +208,7 @@ fn settle(l: PageLimits, i: usize, sums: &[u32], best: &mut [u64], next: &mut [u
     next[i] = 0;
 }
 
-// One start: the pointer, the choice, the links.
+// One start, which is lent the moves strip from the present count on: the pointer, the choice, the links. The moves in the answer are its own.
 pub fn at_start(
     l: PageLimits,
     i: usize,
@@ -203,16 +220,12 @@ pub fn at_start(
     r: usize,
     moves: &mut [u32],
 ) -> Reached
-    requires { ⌜ StartAsk l i (now sums) (now best) (now next) (record { pointer = r; left = now left; right = now right }) (length (now moves)) ⌝ }
-    ensures { λ p. ⌜ Started l (wordsOf (now (sums .entry))) i (record { pointer = r; left = now (left .entry); right = now (right .entry) }) (now (best .entry)) (now (next .entry)) (now (moves .entry)) (p .at) (p .moves) (now (best .exit)) (now (next .exit)) (now (left .exit)) (now (right .exit)) (now (moves .exit)) ⌝ }
+    requires { ⌜ StartAsk l i (now sums) (now best) (now next) (record { pointer = r; left = now left; right = now right }) 0 (length (now moves)) ⌝ }
+    ensures { λ p. ⌜ Started l (wordsOf (now (sums .entry))) i (record { pointer = r; left = now (left .entry); right = now (right .entry) }) (now (best .entry)) (now (next .entry)) 0 (now (moves .entry)) (p .at) (p .moves) (now (best .exit)) (now (next .exit)) (now (left .exit)) (now (right .exit)) (now (moves .exit)) ⌝ }
 {
-    let pointed = point(l, i, sums, left, r, moves);
+    let pointed = point(l, i, sums, left, r, moves, 0);
     let at = pointed.at;
-    let taken = pointed.moves;
     settle(l, i, sums, best, next, at);
-    let joined = join(i, best, left, right, &mut moves[taken..]);
-    Reached {
-        at,
-        moves: taken + joined,
-    }
+    let taken = join(i, best, left, right, moves, pointed.moves);
+    Reached { at, moves: taken }
 }

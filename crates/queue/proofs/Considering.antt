@@ -1,20 +1,19 @@
 -- A candidate is passed, or added; and the candidates one after the other. Assumes nothing.
 use Prim.Native.Nat.{ℕ, _-_, _^_, _≤_, _<_}
-use mathlib.Core.Path.{_≡_, refl, ap, sym, _∙_}
+use mathlib.Core.Path.{_≡_, refl}
 use mathlib.Core.Logic.{⊎-elim}
 use mathlib.Core.List.{List}
 use native.Mathlib.Omega.{arith}
 use borrow.Author.Tests.{eq-eqb}
-use lib.ListN.{length, getD}
+use lib.ListN.{getD}
 use lib.Seq.{slice}
 use Rattle.laws.specs.Number.{split}
 use Rattle.paper.specs.declared.Limits.{Limits}
 use Rattle.paper.specs.declared.Kind.the-variants.{Pass}
-use Rattle.paper.specs.Moves.{Taken, move, moved, still}
+use Rattle.paper.specs.Moves.{move, moved, still}
 use Rattle.paper.specs.QueueRules.{add, consider}
 use Rattle.queue_right.specs.Turns.{consider-long, consider-none, consider-add}
 use Rattle.lines.specs.Held.{span, costOf, textIn, cost-number}
-use Rattle.strips.specs.Running.{written}
 use Rattle.queue.specs.Asks.{Member, AddAsks, ConsiderAsks, Passes, Added}
 
 -- a candidate that is considered is above the start
@@ -25,7 +24,7 @@ reaches S i j lmin low reach near =
     (λ h. h)
     (split j i)
 
-module _ (l : Limits) (i j : ℕ) (S B Q : List ℕ) (f e room : ℕ) (a : ConsiderAsks l i j S B Q f e room) where
+module _ (l : Limits) (i j : ℕ) (S B Q : List ℕ) (f e t room : ℕ) (a : ConsiderAsks l i j S B Q f e t room) where
   pub above : i < j
   above = reaches S i j (l .lmin) (a .words .ranges .lmin-low) (a .reach) (a .queued .near)
 
@@ -40,33 +39,31 @@ module _ (l : Limits) (i j : ℕ) (S B Q : List ℕ) (f e room : ℕ) (a : Consi
     number = record { within = omega (arith, a .queued .within, a .words .same); small = numbered other };
   }
 
-  pub considering-add : (x : ℕ) → x ≡ span S i j → x ≤ l .lmax → (getD B (j - 1) 0 ≡ 2 ^ 64 - 1 → ⊥) → AddAsks l i j S B Q f e room
+  pub considering-add : (x : ℕ) → x ≡ span S i j → x ≤ l .lmax → (getD B (j - 1) 0 ≡ 2 ^ 64 - 1 → ⊥) → AddAsks l i j S B Q f e t room
   considering-add x v short other = record { words = a .words; queued = a .queued; new = considering-new x v short other; enough = a .enough }
 
-  passed : (m₀ : List ℕ) (r taken : ℕ) (m : List ℕ) → consider (textIn l S B) i j (slice f e Q) ≡ moved (move Pass j) (still (slice f e Q)) →
-      Passes j e m₀ r taken m → Added (consider (textIn l S B) i j (slice f e Q)) Q f e m₀ r taken Q m
-  passed m₀ r taken m is p = record {
-    moves = p .moves ∙ ap (λ (t : Taken (List ℕ)). written (t .moves) m₀) (sym is);
-    count = p .count ∙ ap (λ (t : Taken (List ℕ)). length (t .moves)) (sym is);
-    stands = ap (λ (t : Taken (List ℕ)). t .stands) is ∙ ap (λ (k : ℕ). slice f k Q) (sym (p .stays));
+  passed : (m₀ : List ℕ) (r u : ℕ) (m : List ℕ) → consider (textIn l S B) i j (slice f e Q) ≡ moved (move Pass j) (still (slice f e Q)) →
+      Passes j e t m₀ r u m → Added (consider (textIn l S B) i j (slice f e Q)) Q f e t m₀ r u Q m
+  passed m₀ r u m is p = record {
+    ran = rw (is, p .stays) (p .ran (slice f e Q));
     low = omega (arith, p .stays, a .queued .order);
     high = omega (arith, p .stays);
     same = refl;
   }
 
-  pub considering-long : (x : ℕ) (m₀ : List ℕ) (r taken : ℕ) (m : List ℕ) → x ≡ span S i j → l .lmax < x → Passes j e m₀ r taken m →
-      Added (consider (textIn l S B) i j (slice f e Q)) Q f e m₀ r taken Q m
+  pub considering-long : (x : ℕ) (m₀ : List ℕ) (r u : ℕ) (m : List ℕ) → x ≡ span S i j → l .lmax < x → Passes j e t m₀ r u m →
+      Added (consider (textIn l S B) i j (slice f e Q)) Q f e t m₀ r u Q m
   unfolding textIn
-  considering-long x m₀ r taken m v long p = passed m₀ r taken m (consider-long (textIn l S B) i j (slice f e Q) (rw v at long)) p
+  considering-long x m₀ r u m v long p = passed m₀ r u m (consider-long (textIn l S B) i j (slice f e Q) (rw v at long)) p
 
-  pub considering-none : (m₀ : List ℕ) (r taken : ℕ) (m : List ℕ) → getD B (j - 1) 0 ≡ 2 ^ 64 - 1 → Passes j e m₀ r taken m →
-      Added (consider (textIn l S B) i j (slice f e Q)) Q f e m₀ r taken Q m
+  pub considering-none : (m₀ : List ℕ) (r u : ℕ) (m : List ℕ) → getD B (j - 1) 0 ≡ 2 ^ 64 - 1 → Passes j e t m₀ r u m →
+      Added (consider (textIn l S B) i j (slice f e Q)) Q f e t m₀ r u Q m
   unfolding textIn costOf
-  considering-none m₀ r taken m v p =
-      passed m₀ r taken m (consider-none (textIn l S B) i j (slice f e Q) (λ h. rw (eq-eqb (getD B (j - 1) 0) (2 ^ 64 - 1) v) at h)) p
+  considering-none m₀ r u m v p =
+      passed m₀ r u m (consider-none (textIn l S B) i j (slice f e Q) (λ h. rw (eq-eqb (getD B (j - 1) 0) (2 ^ 64 - 1) v) at h)) p
 
-  pub considering-done : (x : ℕ) (m₀ : List ℕ) (r taken : ℕ) (Q′ m : List ℕ) → x ≡ span S i j → x ≤ l .lmax → (getD B (j - 1) 0 ≡ 2 ^ 64 - 1 → ⊥) →
-      Added (add (textIn l S B) i j (slice f e Q)) Q f e m₀ r taken Q′ m → Added (consider (textIn l S B) i j (slice f e Q)) Q f e m₀ r taken Q′ m
+  pub considering-done : (x : ℕ) (m₀ : List ℕ) (r u : ℕ) (Q′ m : List ℕ) → x ≡ span S i j → x ≤ l .lmax → (getD B (j - 1) 0 ≡ 2 ^ 64 - 1 → ⊥) →
+      Added (add (textIn l S B) i j (slice f e Q)) Q f e t m₀ r u Q′ m → Added (consider (textIn l S B) i j (slice f e Q)) Q f e t m₀ r u Q′ m
   unfolding textIn
-  considering-done x m₀ r taken Q′ m v short other d =
+  considering-done x m₀ r u Q′ m v short other d =
       rw (consider-add (textIn l S B) i j (slice f e Q) (rw v at short) (rw (cost-number (getD B (j - 1) 0) (omega (arith, numbered other))) tt)) d

@@ -35,8 +35,8 @@ module _ (l : Limits) (S B : List ℕ) (i : ℕ) (words : Words l S B) where
   }
 
 -- the rear at place r - 1 and its neighbour, as the code has them
-pub rear-three : (l : Limits) (j : ℕ) (S B Q : List ℕ) (f e room r w v : ℕ) → PopBridgedAsks l j S B Q f e room → f + 1 < r → r ≤ e →
+pub rear-three : (l : Limits) (j : ℕ) (S B Q : List ℕ) (f e t room r w v : ℕ) → PopBridgedAsks l j S B Q f e t room → f + 1 < r → r ≤ e →
     w ≡ getD Q (r - 1) 0 → v ≡ getD Q (r - 2) 0 → Three l S B j w v
-rear-three l j S B Q f e room r w v asks h g u u′ =
+rear-three l j S B Q f e t room r w v asks h g u u′ =
     let z : r - 2 + 1 ≡ r - 1 = omega arith in
     rw (u, u′) (rw z at (asks .threes (r - 2) (omega arith) (omega arith)))

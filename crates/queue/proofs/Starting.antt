@@ -1,16 +1,14 @@
 -- The three rules of a start, one after the other. Assumes nothing.
-use Prim.Native.Nat.{ℕ, _+_, _-_, _≤_, _<_}
+use Prim.Native.Nat.{ℕ, _+_, _-_, _*_, _≤_, _<_}
 use mathlib.Core.Path.{_≡_, ap, subst, _∙_}
 use mathlib.Core.Logic.{⊎-elim}
 use mathlib.Core.List.{List, [], _∷_}
 use native.Mathlib.Omega.{arith}
-use borrow.Rule.Slice.PartMut.{putMid}
-use lib.ListN.{length, getD, take, drop, length-drop}
+use lib.ListN.{length, getD}
 use lib.Seq.{slice, length-slice}
 use Rattle.laws.specs.Number.{split}
 use Rattle.laws.specs.Members.{Every, every-map, every-map2, Falls, slice-every}
 use Rattle.paper.specs.declared.Limits.{Limits}
-use Rattle.laws.specs.Strip.{lent-is}
 use Rattle.paper.specs.Moves.{Taken, still, joined}
 use Rattle.paper.specs.QueueRules.{Text, Standing, dropLong, candidates, dropWorse, settled, atStart}
 use Rattle.queue_right.specs.Turns.{dropLong-more, dropLong-stop}
@@ -18,7 +16,7 @@ use Rattle.queue_right.specs.Leaves.{dropLong-every, dropLong-pairs, dropWorse-
 use Rattle.queue_right.specs.Count.{candidates-count}
 use Rattle.lines.specs.Held.{span, textIn}
 use Rattle.lines.specs.Asks.{Rising}
-use Rattle.strips.specs.Running.{Running, running-rule, running-part, running-done, running-length, running-room, joined-assoc}
+use Rattle.strips.specs.Running.{Running, running-first, running-same, running-rule, running-done, running-length, joined-assoc}
 use Rattle.queue.specs.declared.Queue.{Queue}
 use Rattle.queue.specs.Asks.{Member, Queued, DropLongAsks, DropWorseAsks, CandidatesAsks, StartAsks, Dropped, Considered, Left}
 
@@ -50,11 +48,11 @@ module _ (l : Limits) (S B : List ℕ) (i : ℕ) (rising : Rising S) (first : 1 
       (λ long. rw (dropLong-more (textIn l S B) i j q long) (long-inside q (f .1) (e .1)))
       (split (span S i j) (l .lmax))
 
-module _ (l : Limits) (i : ℕ) (S B Q : List ℕ) (f e c : ℕ) (m₀ : List ℕ) (a : StartAsks l i S B Q f e c (length m₀)) where
+module _ (l : Limits) (i : ℕ) (S B Q : List ℕ) (f e c count : ℕ) (m₀ : List ℕ) (a : StartAsks l i S B Q f e c count (length m₀)) where
   abbrev t : Text
   t = textIn l S B
 
-  pub starting-long : DropLongAsks l i S Q f e (length m₀)
+  pub starting-long : DropLongAsks l i S Q f e count (length m₀)
   starting-long = record {
     few = a .words .few;
     rising = a .words .rising;
@@ -63,102 +61,92 @@ module _ (l : Limits) (i : ℕ) (S B Q : List ℕ) (f e c : ℕ) (m₀ : List �
         record { first = a .first; above = omega (arith, m .break .above); within = m .break .within };
   }
 
-  module _ (r : ℕ) (m₁ : List ℕ) (d : Dropped (dropLong t i (slice f e Q)) Q f e m₀ r m₁) (len₁ : length m₁ ≡ length m₀) where
+  module _ (r k₁ : ℕ) (m₁ : List ℕ) (d : Dropped (dropLong t i (slice f e Q)) Q f e count m₀ r k₁ m₁) (len₁ : length m₁ ≡ length m₀) where
     starting-queued : Queued l S B i Q r e c
     starting-queued = record {
       order = d .within;
       standing = a .queued .standing;
       short = a .queued .short;
-      each = subst (Every (Member l S B i)) (d .stands) (long-inside l S B i (a .words .rising) (a .first) (slice f e Q) (a .queued .falls) (a .queued .each));
-      falls = subst Falls (d .stands) (dropLong-pairs t (λ (x y : ℕ). y < x) i (slice f e Q) (a .queued .falls));
-      below = subst (Every (λ (k : ℕ). c < k)) (d .stands) (dropLong-every t (λ (k : ℕ). c < k) i (slice f e Q) (a .queued .below));
+      each = subst (Every (Member l S B i)) (d .ran .stands) (long-inside l S B i (a .words .rising) (a .first) (slice f e Q) (a .queued .falls) (a .queued .each));
+      falls = subst Falls (d .ran .stands) (dropLong-pairs t (λ (x y : ℕ). y < x) i (slice f e Q) (a .queued .falls));
+      below = subst (Every (λ (k : ℕ). c < k)) (d .ran .stands) (dropLong-every t (λ (k : ℕ). c < k) i (slice f e Q) (a .queued .below));
       near = omega (arith, a .queued .near);
       within = a .queued .within;
       place = a .queued .place;
     }
 
-    -- the rest of the moves strip is lent to rule 2
-    part₁ : length (take (length m₁ - (r - f)) (drop (r - f) m₁)) ≡ length m₀ - (r - f)
-    part₁ = rw (lent-is m₁ (r - f)) (length-drop (r - f) m₁ ∙ ap (λ (k : ℕ). k - (r - f)) len₁)
+    enough₁ : k₁ + (e - r) + 2 * (c - 1) ≤ length m₀
+    enough₁ = omega (arith, a .enough, d .ran .count, d .place, d .within)
 
-    pub starting-candidates : CandidatesAsks l i S B Q r e c (length (take (length m₁ - (r - f)) (drop (r - f) m₁)))
+    pub starting-candidates : CandidatesAsks l i S B Q r e c k₁ (length m₁)
     starting-candidates = record {
       words = a .words;
       bests = a .bests;
       queued = starting-queued;
       first = a .first;
-      enough = rw part₁ (omega (arith, a .enough, d .count, d .within));
+      enough = omega (arith, enough₁, len₁);
     }
 
-    module _ (s : Queue) (Q₂ n₂ : List ℕ) (g : Considered l i S B Q r e c (take (length m₁ - (r - f)) (drop (r - f) m₁)) s Q₂ n₂) where
-      abbrev m₂ : List ℕ
-      m₂ = putMid (r - f) (length m₁ - (r - f)) m₁ n₂
-
+    module _ (s : Queue) (Q₂ m₂ : List ℕ) (g : Considered l i S B Q r e c k₁ m₁ s Q₂ m₂) where
       abbrev whole : Taken Standing
       whole = atStart t i (record { queue = slice f e Q; candidate = c })
 
       -- the moves of rules 1 and 2, and one for each that stands, have room
-      pub starting-enough : r - f + s .moves + (s .end - s .front) ≤ length m₀
-      starting-enough =
+      enough₂ : s .moves + (s .end - s .front) ≤ length m₀
+      enough₂ =
           let count = candidates-count t i c (slice r e Q) in
           let stood : length (slice r e Q) ≡ e - r = length-slice r e Q (a .queued .standing) in
           let queue : length (candidates t i c (slice r e Q) .stands .queue) ≡ s .end - s .front =
-          ap (λ (z : Standing). length (z .queue)) (g .left .stands) ∙ length-slice (s .front) (s .end) Q₂ (g .left .queued .standing) in
-          let candidate : candidates t i c (slice r e Q) .stands .candidate ≡ s .candidate = ap (λ (z : Standing). z .candidate) (g .left .stands) in
-          omega (arith, a .enough, g .left .count, g .left .queued .near, a .first, a .queued .near, d .count, d .within)
+          ap (λ (z : Standing). length (z .queue)) (g .left .ran .stands) ∙ length-slice (s .front) (s .end) Q₂ (g .left .queued .standing) in
+          let candidate : candidates t i c (slice r e Q) .stands .candidate ≡ s .candidate = ap (λ (z : Standing). z .candidate) (g .left .ran .stands) in
+          omega (arith, enough₁, g .left .ran .count, g .left .queued .near, a .first, a .queued .near)
 
       -- rules 1 and 2 are written
-      pub starting-two : Running whole (settled t i (record { queue = slice (s .front) (s .end) Q₂; candidate = s .candidate })) m₀ m₂ (r - f + s .moves)
+      two : Running whole (settled t i (record { queue = slice (s .front) (s .end) Q₂; candidate = s .candidate })) count m₀ m₂ (s .moves)
       unfolding atStart
-      starting-two =
+      two =
           let P : Taken (List ℕ) = dropLong t i (slice f e Q) in
-          let first = running-rule whole m₀ P (λ q. joined (candidates t i c q) (settled t i)) m₁ (r - f) (joined-assoc P (candidates t i c) (settled t i)) (d .moves) (omega (arith, d .count)) (omega (arith, a .enough, d .within)) in
-          let second : Running whole (joined (candidates t i c (slice r e Q)) (settled t i)) m₀ m₁ (r - f) =
-          subst (λ (q : List ℕ). Running whole (joined (candidates t i c q) (settled t i)) m₀ m₁ (r - f)) (d .stands) first in
-          subst (λ (z : Standing). Running whole (settled t i z) m₀ m₂ (r - f + s .moves)) (g .left .stands)
-          (running-part whole m₀ m₁ (r - f) (candidates t i c (slice r e Q)) (settled t i) n₂ (s .moves) second (g .left .moves) (g .left .count) (omega (arith, starting-enough)))
+          let none = running-same whole count m₀ m₀ count (joined-assoc P (candidates t i c) (settled t i)) (running-first whole count m₀ (omega (arith, a .enough))) in
+          let one = running-rule whole count m₀ m₀ count P (λ q. joined (candidates t i c q) (settled t i)) m₁ k₁ (slice r e Q) none (d .ran) (omega (arith, enough₁)) in
+          running-rule whole count m₀ m₁ k₁ (candidates t i c (slice r e Q)) (settled t i) m₂ (s .moves) (record { queue = slice (s .front) (s .end) Q₂; candidate = s .candidate }) one (g .left .ran) (omega (arith, enough₂))
 
-      pub starting-length : length m₂ ≡ length m₀
-      starting-length = running-length whole m₀ m₂ (r - f + s .moves) starting-two
-
-      -- the rest of it is lent to rule 3, on the queue from place r on
-      pub starting-worse : DropWorseAsks l i S B Q₂ r (s .end) (length (take (length m₂ - (r - f + s .moves)) (drop (r - f + s .moves) m₂)))
+      -- rule 3 takes the queue from place r on
+      pub starting-worse : DropWorseAsks l i S B Q₂ r (s .end) (s .moves) (length m₂)
       starting-worse = record {
         words = a .words;
         places = record {
           order = omega (arith, g .left .queued .order, g .front);
           standing = g .left .queued .standing;
           short = g .left .queued .short;
-          enough = rw (running-room whole m₀ m₂ (r - f + s .moves) starting-two) (omega (arith, starting-enough, g .front));
+          enough = omega (arith, enough₂, g .front, running-length whole count m₀ m₂ (s .moves) two);
         };
         each = λ k h k′. slice-every (Member l S B i) (s .front) (s .end) Q₂ (g .left .queued .standing) (g .left .queued .each) k (omega (arith, g .front)) k′;
       }
 
-      module _ (p : ℕ) (n₃ : List ℕ) (w : Dropped (dropWorse t i (slice r (s .end) Q₂)) Q₂ r (s .end) (take (length m₂ - (r - f + s .moves)) (drop (r - f + s .moves) m₂)) p n₃) where
+      module _ (p k₃ : ℕ) (m₃ : List ℕ) (w : Dropped (dropWorse t i (slice r (s .end) Q₂)) Q₂ r (s .end) (s .moves) m₂ p k₃ m₃) where
         at-front : slice (s .front) (s .end) Q₂ ≡ slice r (s .end) Q₂
         at-front = ap (λ (k : ℕ). slice k (s .end) Q₂) (g .front)
 
-        pub starting-done : Left l i S B whole Q m₀ (record { front = p; end = s .end; candidate = s .candidate; moves = r - f + s .moves + (p - r) }) Q₂
-            (putMid (r - f + s .moves) (length m₂ - (r - f + s .moves)) m₂ n₃)
+        stood : (P : List ℕ → Type 0) → P (slice (s .front) (s .end) Q₂) → (P (slice r (s .end) Q₂) → P (dropWorse t i (slice r (s .end) Q₂) .stands)) → P (slice p (s .end) Q₂)
+        stood P before keeps = subst P (w .ran .stands) (keeps (subst P at-front before))
+
+        pub starting-done : Left l i S B whole Q count m₀ (record { front = p; end = s .end; candidate = s .candidate; moves = k₃ }) Q₂ m₃
         unfolding settled
         starting-done =
             let rest : List ℕ → Taken Standing = λ q. still (record { queue = q; candidate = s .candidate }) in
-            let third : Running whole (joined (dropWorse t i (slice r (s .end) Q₂)) rest) m₀ m₂ (r - f + s .moves) =
-            subst (λ (q : List ℕ). Running whole (joined (dropWorse t i q) rest) m₀ m₂ (r - f + s .moves)) at-front starting-two in
-            let last = running-part whole m₀ m₂ (r - f + s .moves) (dropWorse t i (slice r (s .end) Q₂)) rest n₃ (p - r) third (w .moves) (omega (arith, w .count)) (omega (arith, starting-enough, w .within, w .count, g .front)) in
-            let done = running-done whole m₀ (putMid (r - f + s .moves) (length m₂ - (r - f + s .moves)) m₂ n₃) (r - f + s .moves + (p - r)) (record { queue = dropWorse t i (slice r (s .end) Q₂) .stands; candidate = s .candidate }) last in
+            let third : Running whole (joined (dropWorse t i (slice r (s .end) Q₂)) rest) count m₀ m₂ (s .moves) =
+            subst (λ (q : List ℕ). Running whole (joined (dropWorse t i q) rest) count m₀ m₂ (s .moves)) at-front two in
+            let last = running-rule whole count m₀ m₂ (s .moves) (dropWorse t i (slice r (s .end) Q₂)) rest m₃ k₃ (slice p (s .end) Q₂) third (w .ran) (omega (arith, enough₂, w .ran .count, w .place, w .within, g .front)) in
             record {
-              moves = done .moves;
-              count = done .count;
-              stands = done .stands ∙ ap (λ (q : List ℕ). record { queue = q; candidate = s .candidate }) (w .stands);
+              ran = running-done whole count m₀ m₃ k₃ (record { queue = slice p (s .end) Q₂; candidate = s .candidate }) last;
               same = g .left .same;
               queued = record {
                 order = w .within;
                 standing = g .left .queued .standing;
                 short = g .left .queued .short;
-                each = subst (Every (Member l S B i)) (w .stands) (dropWorse-every t (Member l S B i) i (slice r (s .end) Q₂) (subst (Every (Member l S B i)) at-front (g .left .queued .each)));
-                falls = subst Falls (w .stands) (dropWorse-pairs t (λ (x y : ℕ). y < x) i (slice r (s .end) Q₂) (subst Falls at-front (g .left .queued .falls)));
-                below = subst (Every (λ (k : ℕ). s .candidate < k)) (w .stands) (dropWorse-every t (λ (k : ℕ). s .candidate < k) i (slice r (s .end) Q₂) (subst (Every (λ (k : ℕ). s .candidate < k)) at-front (g .left .queued .below)));
+                each = stood (Every (Member l S B i)) (g .left .queued .each) (dropWorse-every t (Member l S B i) i (slice r (s .end) Q₂));
+                falls = stood Falls (g .left .queued .falls) (dropWorse-pairs t (λ (x y : ℕ). y < x) i (slice r (s .end) Q₂));
+                below = stood (Every (λ (k : ℕ). s .candidate < k)) (g .left .queued .below) (dropWorse-every t (λ (k : ℕ). s .candidate < k) i (slice r (s .end) Q₂));
                 near = g .left .queued .near;
                 within = g .left .queued .within;
                 place = g .left .queued .place;

@@ -11,19 +11,19 @@ use paper::Move;
 use strips::put;
 ghost use lib.ListN.{length};
 ghost use lib.Seq.{slice};
-ghost use Prim.Native.Nat.{ℕ, _≤_};
+ghost use Prim.Native.Nat.{ℕ, _≤_, _<_};
 ghost use mathlib.Core.List.{List, reverse};
 ghost use Rattle.paper.specs.QueueRules.{dropLong, popWorse, popBridged, add as isAdd, consider as isConsider, dropWorse, atStart};
 ghost use Rattle.lines.specs.Held.{textIn};
 ghost use Rattle.queue.specs.Asks.{DropLongAsks, DropWorseAsks, PopWorseAsks, PopBridgedAsks, AddAsks, ConsiderAsks, CandidatesAsks, StartAsks, Dropped, Popped, Passes, Added, Considered, Left};
 
-// The place behind the rear, and the moves taken.
-pub struct Rear {
-    pub end: usize,
+// The place in the queue's strip that a rule came to, and the moves taken so far.
+pub struct Reached {
+    pub at: usize,
     pub moves: usize,
 }
 
-// Where the queue stands in its strip, the next candidate, and the moves taken.
+// Where the queue stands in its strip, the next candidate, and the moves taken so far.
 pub struct Queue {
     pub front: usize,
     pub end: usize,
@@ -40,11 +40,13 @@ fn drop_long(
     front: usize,
     end: usize,
     moves: &mut [u32],
-) -> usize
-    requires { ⌜ DropLongAsks l i (now sums) (now queue) front end (length (now moves)) ⌝ }
-    ensures { λ r. ⌜ ((B : List ℕ) → Dropped (dropLong (textIn l (now (sums .entry)) B) i (slice front end (now (queue .entry)))) (now (queue .entry)) front end (now (moves .entry)) r (now (moves .exit))) ⌝ }
+    count: usize,
+) -> Reached
+    requires { ⌜ DropLongAsks l i (now sums) (now queue) front end count (length (now moves)) ⌝ }
+    ensures { λ r. ⌜ ((B : List ℕ) → Dropped (dropLong (textIn l (now (sums .entry)) B) i (slice front end (now (queue .entry)))) (now (queue .entry)) front end count (now (moves .entry)) (r .at) (r .moves) (now (moves .exit))) ⌝ }
 {
     let mut at = front;
+    let mut taken = count;
     while at < end {
         let j = queue[at];
         if line(sums, i, wide(j)) <= l.lmax {
@@ -52,15 +54,16 @@ fn drop_long(
         }
         put(
             moves,
-            at - front,
+            taken,
             Move {
                 kind: Kind::Drop,
                 index: j,
             },
         );
         at += 1;
+        taken += 1;
     }
-    at
+    Reached { at, moves: taken }
 }
 
 // "Pop the rear while F(i, candidate) ≤ F(i, rear)". Answers the place behind the rear.
@@ -74,12 +77,14 @@ fn pop_worse(
     end: usize,
     j: usize,
     moves: &mut [u32],
-) -> usize
-    requires { ⌜ PopWorseAsks l i j (now sums) (now best) (now queue) front end (length (now moves)) ⌝ }
-    ensures { λ r. ⌜ Popped (popWorse (textIn l (now (sums .entry)) (now (best .entry))) i j (reverse (slice front end (now (queue .entry))))) (now (queue .entry)) front end (now (moves .entry)) r (now (moves .exit)) ⌝ }
+    count: usize,
+) -> Reached
+    requires { ⌜ PopWorseAsks l i j (now sums) (now best) (now queue) front end count (length (now moves)) ⌝ }
+    ensures { λ r. ⌜ Popped (popWorse (textIn l (now (sums .entry)) (now (best .entry))) i j (reverse (slice front end (now (queue .entry))))) (now (queue .entry)) front end count (now (moves .entry)) (r .at) (r .moves) (now (moves .exit)) ⌝ }
 {
     let new = through(l, sums, best, i, j);
     let mut at = end;
+    let mut taken = count;
     while front < at {
         let k = queue[at - 1];
         if through(l, sums, best, i, wide(k)) < new {
@@ -87,15 +92,16 @@ fn pop_worse(
         }
         put(
             moves,
-            end - at,
+            taken,
             Move {
                 kind: Kind::Pop,
                 index: k,
             },
         );
         at -= 1;
+        taken += 1;
     }
-    at
+    Reached { at, moves: taken }
 }
 
 // "Pop the rear while two or more stand and the rear is bridged". Answers the place behind the rear.
@@ -108,11 +114,13 @@ fn pop_bridged(
     end: usize,
     j: usize,
     moves: &mut [u32],
-) -> usize
-    requires { ⌜ PopBridgedAsks l j (now sums) (now best) (now queue) front end (length (now moves)) ⌝ }
-    ensures { λ r. ⌜ Popped (popBridged (textIn l (now (sums .entry)) (now (best .entry))) j (reverse (slice front end (now (queue .entry))))) (now (queue .entry)) front end (now (moves .entry)) r (now (moves .exit)) ⌝ }
+    count: usize,
+) -> Reached
+    requires { ⌜ PopBridgedAsks l j (now sums) (now best) (now queue) front end count (length (now moves)) ⌝ }
+    ensures { λ r. ⌜ Popped (popBridged (textIn l (now (sums .entry)) (now (best .entry))) j (reverse (slice front end (now (queue .entry))))) (now (queue .entry)) front end count (now (moves .entry)) (r .at) (r .moves) (now (moves .exit)) ⌝ }
 {
     let mut at = end;
+    let mut taken = count;
     while front + 1 < at {
         let k = queue[at - 1];
         let n = queue[at - 2];
@@ -121,15 +129,16 @@ fn pop_bridged(
         }
         put(
             moves,
-            end - at,
+            taken,
             Move {
                 kind: Kind::Pop,
                 index: k,
             },
         );
         at -= 1;
+        taken += 1;
     }
-    at
+    Reached { at, moves: taken }
 }
 
 // "3. While two or more stand and F of the second is ≤ F of the front: Drop the front." Answers the place of the front.
@@ -142,11 +151,13 @@ fn drop_worse(
     front: usize,
     end: usize,
     moves: &mut [u32],
-) -> usize
-    requires { ⌜ DropWorseAsks l i (now sums) (now best) (now queue) front end (length (now moves)) ⌝ }
-    ensures { λ r. ⌜ Dropped (dropWorse (textIn l (now (sums .entry)) (now (best .entry))) i (slice front end (now (queue .entry)))) (now (queue .entry)) front end (now (moves .entry)) r (now (moves .exit)) ⌝ }
+    count: usize,
+) -> Reached
+    requires { ⌜ DropWorseAsks l i (now sums) (now best) (now queue) front end count (length (now moves)) ⌝ }
+    ensures { λ r. ⌜ Dropped (dropWorse (textIn l (now (sums .entry)) (now (best .entry))) i (slice front end (now (queue .entry)))) (now (queue .entry)) front end count (now (moves .entry)) (r .at) (r .moves) (now (moves .exit)) ⌝ }
 {
     let mut at = front;
+    let mut taken = count;
     while at + 1 < end {
         let j = queue[at];
         let k = queue[at + 1];
@@ -157,31 +168,35 @@ fn drop_worse(
         }
         put(
             moves,
-            at - front,
+            taken,
             Move {
                 kind: Kind::Drop,
                 index: j,
             },
         );
         at += 1;
+        taken += 1;
     }
-    at
+    Reached { at, moves: taken }
 }
 
 // A candidate is passed. It leaves the queue as it is.
-fn pass(j: usize, end: usize, moves: &mut [u32]) -> Rear
-    requires { ⌜ (1 ≤ length (now moves)) × (j ≤ 4097) ⌝ }
-    ensures { λ r. ⌜ Passes j end (now (moves .entry)) (r .end) (r .moves) (now (moves .exit)) ⌝ }
+fn pass(j: usize, end: usize, moves: &mut [u32], count: usize) -> Reached
+    requires { ⌜ (count < length (now moves)) × (j ≤ 4097) ⌝ }
+    ensures { λ r. ⌜ Passes j end count (now (moves .entry)) (r .at) (r .moves) (now (moves .exit)) ⌝ }
 {
     put(
         moves,
-        0,
+        count,
         Move {
             kind: Kind::Pass,
             index: j as u32,
         },
     );
-    Rear { end, moves: 1 }
+    Reached {
+        at: end,
+        moves: count + 1,
+    }
 }
 
 // The rear is popped twice over, and the candidate added.
@@ -195,25 +210,27 @@ fn add(
     end: usize,
     j: usize,
     moves: &mut [u32],
-) -> Rear
-    requires { ⌜ AddAsks l i j (now sums) (now best) (now queue) front end (length (now moves)) ⌝ }
-    ensures { λ r. ⌜ Added (isAdd (textIn l (now (sums .entry)) (now (best .entry))) i j (slice front end (now (queue .entry)))) (now (queue .entry)) front end (now (moves .entry)) (r .end) (r .moves) (now (queue .exit)) (now (moves .exit)) ⌝ }
+    count: usize,
+) -> Reached
+    requires { ⌜ AddAsks l i j (now sums) (now best) (now queue) front end count (length (now moves)) ⌝ }
+    ensures { λ r. ⌜ Added (isAdd (textIn l (now (sums .entry)) (now (best .entry))) i j (slice front end (now (queue .entry)))) (now (queue .entry)) front end count (now (moves .entry)) (r .at) (r .moves) (now (queue .exit)) (now (moves .exit)) ⌝ }
 {
-    let worse = pop_worse(l, i, sums, best, queue, front, end, j, moves);
-    let taken = end - worse;
-    let rear = pop_bridged(l, sums, best, queue, front, worse, j, &mut moves[taken..]);
-    queue[rear] = j as u32;
+    let worse = pop_worse(l, i, sums, best, queue, front, end, j, moves, count);
+    let rear = pop_bridged(l, sums, best, queue, front, worse.at, j, moves, worse.moves);
+    let at = rear.at;
+    let taken = rear.moves;
+    queue[at] = j as u32;
     put(
         moves,
-        end - rear,
+        taken,
         Move {
             kind: Kind::Add,
             index: j as u32,
         },
     );
-    Rear {
-        end: rear + 1,
-        moves: end - rear + 1,
+    Reached {
+        at: at + 1,
+        moves: taken + 1,
     }
 }
 
@@ -228,20 +245,21 @@ fn consider(
     end: usize,
     j: usize,
     moves: &mut [u32],
-) -> Rear
-    requires { ⌜ ConsiderAsks l i j (now sums) (now best) (now queue) front end (length (now moves)) ⌝ }
-    ensures { λ r. ⌜ Added (isConsider (textIn l (now (sums .entry)) (now (best .entry))) i j (slice front end (now (queue .entry)))) (now (queue .entry)) front end (now (moves .entry)) (r .end) (r .moves) (now (queue .exit)) (now (moves .exit)) ⌝ }
+    count: usize,
+) -> Reached
+    requires { ⌜ ConsiderAsks l i j (now sums) (now best) (now queue) front end count (length (now moves)) ⌝ }
+    ensures { λ r. ⌜ Added (isConsider (textIn l (now (sums .entry)) (now (best .entry))) i j (slice front end (now (queue .entry)))) (now (queue .entry)) front end count (now (moves .entry)) (r .at) (r .moves) (now (queue .exit)) (now (moves .exit)) ⌝ }
 {
     if l.lmax < line(sums, i, j) {
-        return pass(j, end, moves);
+        return pass(j, end, moves, count);
     }
     if best[j - 1] == NONE {
-        return pass(j, end, moves);
+        return pass(j, end, moves, count);
     }
-    add(l, i, sums, best, queue, front, end, j, moves)
+    add(l, i, sums, best, queue, front, end, j, moves, count)
 }
 
-// "2. While Line(i, candidate) ≥ lmin: [..] The candidate then falls by one." Each candidate is lent the rest of the moves strip.
+// "2. While Line(i, candidate) ≥ lmin: [..] The candidate then falls by one."
 fn candidates(
     l: Limits,
     i: usize,
@@ -252,17 +270,18 @@ fn candidates(
     end: usize,
     candidate: usize,
     moves: &mut [u32],
+    count: usize,
 ) -> Queue
-    requires { ⌜ CandidatesAsks l i (now sums) (now best) (now queue) front end candidate (length (now moves)) ⌝ }
-    ensures { λ r. ⌜ Considered l i (now (sums .entry)) (now (best .entry)) (now (queue .entry)) front end candidate (now (moves .entry)) r (now (queue .exit)) (now (moves .exit)) ⌝ }
+    requires { ⌜ CandidatesAsks l i (now sums) (now best) (now queue) front end candidate count (length (now moves)) ⌝ }
+    ensures { λ r. ⌜ Considered l i (now (sums .entry)) (now (best .entry)) (now (queue .entry)) front end candidate count (now (moves .entry)) r (now (queue .exit)) (now (moves .exit)) ⌝ }
 {
     let mut rear = end;
     let mut j = candidate;
-    let mut taken = 0;
+    let mut taken = count;
     while l.lmin <= line(sums, i, j) {
-        let more = consider(l, i, sums, best, queue, front, rear, j, &mut moves[taken..]);
-        rear = more.end;
-        taken += more.moves;
+        let more = consider(l, i, sums, best, queue, front, rear, j, moves, taken);
+        rear = more.at;
+        taken = more.moves;
         j -= 1;
     }
     Queue {
@@ -273,7 +292,7 @@ fn candidates(
     }
 }
 
-// The three rules at start i, each lent the moves strip after those before it.
+// The three rules at start i, which is lent the moves strip from the present count on. The moves in the answer are its own.
 pub fn at_start(
     l: Limits,
     i: usize,
@@ -283,13 +302,12 @@ pub fn at_start(
     q: Queue,
     moves: &mut [u32],
 ) -> Queue
-    requires { ⌜ StartAsks l i (now sums) (now best) (now queue) (q .front) (q .end) (q .candidate) (length (now moves)) ⌝ }
-    ensures { λ r. ⌜ Left l i (now (sums .entry)) (now (best .entry)) (atStart (textIn l (now (sums .entry)) (now (best .entry))) i (record { queue = slice (q .front) (q .end) (now (queue .entry)); candidate = q .candidate })) (now (queue .entry)) (now (moves .entry)) r (now (queue .exit)) (now (moves .exit)) ⌝ }
+    requires { ⌜ StartAsks l i (now sums) (now best) (now queue) (q .front) (q .end) (q .candidate) 0 (length (now moves)) ⌝ }
+    ensures { λ r. ⌜ Left l i (now (sums .entry)) (now (best .entry)) (atStart (textIn l (now (sums .entry)) (now (best .entry))) i (record { queue = slice (q .front) (q .end) (now (queue .entry)); candidate = q .candidate })) (now (queue .entry)) 0 (now (moves .entry)) r (now (queue .exit)) (now (moves .exit)) ⌝ }
 {
-    let from = q.front;
     let end = q.end;
-    let front = drop_long(l, i, sums, queue, from, end, moves);
-    let long = front - from;
+    let long = drop_long(l, i, sums, queue, q.front, end, moves, 0);
+    let front = long.at;
     let stood = candidates(
         l,
         i,
@@ -299,15 +317,15 @@ pub fn at_start(
         front,
         end,
         q.candidate,
-        &mut moves[long..],
+        moves,
+        long.moves,
     );
-    let taken = long + stood.moves;
     let rear = stood.end;
-    let lead = drop_worse(l, i, sums, best, queue, front, rear, &mut moves[taken..]);
+    let lead = drop_worse(l, i, sums, best, queue, front, rear, moves, stood.moves);
     Queue {
-        front: lead,
+        front: lead.at,
         end: rear,
         candidate: stood.candidate,
-        moves: taken + (lead - front),
+        moves: lead.moves,
     }
 }

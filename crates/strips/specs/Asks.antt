@@ -16,7 +16,7 @@ pub record SumsAsk (ws s : List ℕ) : Type 0 where
   pub allowed : T (all lengthHolds ws)
   pub room : length ws < length s
 
--- a place in the part lent, and an index of a text
+-- a place in the strip, and an index of a text
 pub record MoveAsk (moves : List ℕ) (at : ℕ) (m : Move) : Type 0 where
   pub place : at < length moves
   pub index : m .index ≤ 4097

@@ -39,7 +39,7 @@ fn kind_number(k: Kind) -> u32
     }
 }
 
-// Writes a move to the part of the moves strip that is lent, coded as a number.
+// Writes a move to its place in the moves strip, coded as a number.
 pub fn put(moves: &mut [u32], at: usize, m: Move)
     requires { ⌜ MoveAsk (now moves) at m ⌝ }
     ensures { λ _. ⌜ now (moves .exit) ≡ set (now (moves .entry)) at (code m) ⌝ }

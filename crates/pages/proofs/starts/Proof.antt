@@ -3,7 +3,7 @@ use borrow.Author.Needs.{needs}
 use native.Mathlib.Omega.{arith}
 use mathlib.Core.Path.{refl}
 use Rattle.strips.specs.Words.{wordsOf, sums-size}
-use Rattle.pages.proofs.Going.{Going, going-first, starts-room, going-length, going-ready, going-ask, going-room, going-next, going-done}
+use Rattle.pages.proofs.Going.{Going, going-first, starts-room, going-length, going-ready, going-ask, going-began, going-room, going-next, going-done}
 use Rattle.pages.proofs.starts.Statement.{statement}
 use Rattle.pages.proofs.starts.Tie as tie
 
@@ -44,13 +44,13 @@ sub-i : tie.Need-sub-i Inv-loop μ-loop
 sub-i c = c .loop-test .taken
 
 mul-at-start : tie.Need-mul-at-start Inv-loop μ-loop
-mul-at-start c = omega (arith, going-room _ _ _ _ _ _ _ _ _ _ _ (c .before .before .before .before .before .loop .inv) (c .before .before .before .before .loop-test .taken) (starts-room (c .before .before .before .before .before .before .before .before .before .before .before .before .before .before .before .before .before .before .before .before .pre)) .0, going-length _ _ _ _ _ _ _ _ _ _ _ (c .before .before .before .before .before .loop .inv) (starts-room (c .before .before .before .before .before .before .before .before .before .before .before .before .before .before .before .before .before .before .before .before .pre)), c .before .before .before .before .before .before .before .before .before .before .before .before .before .before .before .before .before .before .before .before .good)
+mul-at-start c = omega (arith, going-began _ _ _ _ _ _ _ _ _ _ _ (c .before .before .before .before .before .loop .inv) (c .before .before .before .before .loop-test .taken) (starts-room (c .before .before .before .before .before .before .before .before .before .before .before .before .before .before .before .before .before .before .before .before .pre)), going-length _ _ _ _ _ _ _ _ _ _ _ (c .before .before .before .before .before .loop .inv) (starts-room (c .before .before .before .before .before .before .before .before .before .before .before .before .before .before .before .before .before .before .before .before .pre)), c .before .before .before .before .before .before .before .before .before .before .before .before .before .before .before .before .before .before .before .before .good)
 
 sub-at-start : tie.Need-sub-at-start Inv-loop μ-loop
-sub-at-start c = going-room _ _ _ _ _ _ _ _ _ _ _ (c .before .before .before .before .before .loop .inv) (c .before .before .before .before .loop-test .taken) (starts-room (c .before .before .before .before .before .before .before .before .before .before .before .before .before .before .before .before .before .before .before .before .pre)) .0
+sub-at-start c = going-began _ _ _ _ _ _ _ _ _ _ _ (c .before .before .before .before .before .loop .inv) (c .before .before .before .before .loop-test .taken) (starts-room (c .before .before .before .before .before .before .before .before .before .before .before .before .before .before .before .before .before .before .before .before .pre))
 
 part-at-start-start : tie.Need-part-at-start-start Inv-loop μ-loop
-part-at-start-start c = going-room _ _ _ _ _ _ _ _ _ _ _ (c .before .before .before .before .before .loop .inv) (c .before .before .before .before .loop-test .taken) (starts-room (c .before .before .before .before .before .before .before .before .before .before .before .before .before .before .before .before .before .before .before .before .pre)) .0
+part-at-start-start c = going-began _ _ _ _ _ _ _ _ _ _ _ (c .before .before .before .before .before .loop .inv) (c .before .before .before .before .loop-test .taken) (starts-room (c .before .before .before .before .before .before .before .before .before .before .before .before .before .before .before .before .before .before .before .before .pre))
 
 part-at-start-end : tie.Need-part-at-start-end Inv-loop μ-loop
 part-at-start-end c = search needs

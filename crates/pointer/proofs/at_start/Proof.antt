@@ -1,33 +1,18 @@
 -- `pointer::at_start` meets its contract. Assumes nothing.
 use native.Mathlib.Omega.{arith}
-use Rattle.pointer.proofs.Start.{start-points, start-settles, start-room, start-joins, start-done}
+use Rattle.pointer.proofs.Start.{start-points, start-settles, start-joins, start-done}
 use borrow.Author.Needs.{needs}
 use Rattle.pointer.proofs.at_start.Statement.{statement}
 use Rattle.pointer.proofs.at_start.Tie as tie
 
 point-requires : tie.Need-point-requires
-point-requires c κs = start-points _ _ _ _ _ _ _ (c .before .before .before .before .before .before .before .before .pre)
+point-requires c κs = start-points _ _ _ _ _ _ _ _ (c .before .before .before .before .before .before .before .before .pre)
 
 settle-requires : tie.Need-settle-requires
-settle-requires c κs = start-settles _ _ _ _ _ _ _ (c .before .before .before .before .before .before .before .before .before .before .before .before .before .pre) _ (c .before .before .before .before .point .ensures .stands)
-
-mul-join : tie.Need-mul-join
-mul-join c = omega (arith, start-room _ _ _ _ _ _ _ (c .before .before .before .before .before .before .before .before .before .before .before .before .before .before .before .before .before .before .before .before .before .pre) _ _ _ (c .before .before .before .before .before .before .before .before .before .before .before .before .point .ensures) (omega (arith, c .before .before .before .before .before .before .before .before .before .before .before .before .point .kept)) .0, c .before .before .before .before .before .before .before .before .before .before .before .before .point .kept, c .before .before .before .before .before .before .before .before .before .before .before .before .before .before .before .before .before .before .before .before .before .good)
-
-sub-join : tie.Need-sub-join
-sub-join c = start-room _ _ _ _ _ _ _ (c .before .before .before .before .before .before .before .before .before .before .before .before .before .before .before .before .before .before .before .before .before .pre) _ _ _ (c .before .before .before .before .before .before .before .before .before .before .before .before .point .ensures) (omega (arith, c .before .before .before .before .before .before .before .before .before .before .before .before .point .kept)) .0
-
-part-join-start : tie.Need-part-join-start
-part-join-start c = start-room _ _ _ _ _ _ _ (c .before .before .before .before .before .before .before .before .before .before .before .before .before .before .before .before .before .before .before .before .before .pre) _ _ _ (c .before .before .before .before .before .before .before .before .before .before .before .before .point .ensures) (omega (arith, c .before .before .before .before .before .before .before .before .before .before .before .before .point .kept)) .0
-
-part-join-end : tie.Need-part-join-end
-part-join-end c = search needs
+settle-requires c κs = start-settles _ _ _ _ _ _ _ _ (c .before .before .before .before .before .before .before .before .before .before .before .before .before .pre) _ (c .before .before .before .before .point .ensures .stands)
 
 join-requires : tie.Need-join-requires
-join-requires c κs = start-joins _ _ _ _ _ _ _ (c .before .before .before .before .before .before .before .before .before .before .before .before .before .before .before .before .before .before .before .before .before .before .pre) _ _ _ (c .before .before .before .before .before .before .before .before .before .before .before .before .before .point .ensures) _ _ (c .before .before .before .before .before .before .before .before .settle .ensures) (omega (arith, c .before .before .before .before .before .before .before .before .before .before .before .before .before .point .kept))
-
-add-t29 : tie.Need-add-t29
-add-t29 c = omega (arith, c .before .before .before .before .before .before .before .before .before .before .before .before .before .before .before .before .before .before .before .before .before .before .before .before .before .before .before .before .before .pre .enough, start-done _ _ _ _ _ _ _ (c .before .before .before .before .before .before .before .before .before .before .before .before .before .before .before .before .before .before .before .before .before .before .before .before .before .before .before .before .before .pre) _ _ _ (c .before .before .before .before .before .before .before .before .before .before .before .before .before .before .before .before .before .before .before .before .point .ensures) _ _ (c .before .before .before .before .before .before .before .before .before .before .before .before .before .before .before .settle .ensures) _ _ _ _ (c .before .before .before .before .before .before .join .ensures) .ran .count, c .before .before .before .before .before .before .before .before .before .before .before .before .before .before .before .before .before .before .before .before .before .before .before .before .before .before .before .before .before .good)
+join-requires c κs = start-joins _ _ _ _ _ _ _ _ (c .before .before .before .before .before .before .before .before .before .before .before .before .before .before .before .before .before .before .before .before .before .before .pre) _ _ _ (c .before .before .before .before .before .before .before .before .before .before .before .before .before .point .ensures) _ _ (c .before .before .before .before .before .before .before .before .settle .ensures) (omega (arith, c .before .before .before .before .before .before .before .before .before .before .before .before .before .point .kept))
 
 same-length : tie.Need-same-length
 same-length c = search needs
@@ -45,7 +30,7 @@ same-length-5 : tie.Need-same-length-5
 same-length-5 c = search needs
 
 returns : tie.Need-returns
-returns c = start-done _ _ _ _ _ _ _ (c .before .before .before .before .before .before .before .before .before .before .before .before .before .before .before .before .before .before .before .before .before .before .before .before .before .before .before .before .before .pre) _ _ _ (c .before .before .before .before .before .before .before .before .before .before .before .before .before .before .before .before .before .before .before .before .point .ensures) _ _ (c .before .before .before .before .before .before .before .before .before .before .before .before .before .before .before .settle .ensures) _ _ _ _ (c .before .before .before .before .before .before .join .ensures)
+returns c = start-done _ _ _ _ _ _ _ _ (c .before .before .before .before .before .before .before .before .before .before .before .before .before .before .before .before .before .before .before .before .before .before .before .before .before .before .before .before .before .pre) _ _ _ (c .before .before .before .before .before .before .before .before .before .before .before .before .before .before .before .before .before .before .before .before .point .ensures) _ _ (c .before .before .before .before .before .before .before .before .before .before .before .before .before .before .before .settle .ensures) _ _ _ _ (c .before .before .before .before .before .before .join .ensures)
 
 pub at-start-spec : {M : Type 1} → statement M
 at-start-spec =
@@ -53,12 +38,7 @@ at-start-spec =
     (tie.spec
     point-requires
     settle-requires
-    mul-join
-    sub-join
-    part-join-start
-    part-join-end
     join-requires
-    add-t29
     same-length
     same-length-2
     same-length-3

@@ -7,19 +7,19 @@ use Rattle.pointer.proofs.join.Statement.{statement}
 use Rattle.pointer.proofs.join.Tie as tie
 
 returns : tie.Need-returns
-returns c = joins-none _ _ _ _ _ (c .if1 .taken)
+returns c = joins-none _ _ _ _ _ _ (c .before .before .before .before .before .pre .began) (c .if1 .taken)
 
 links-requires : tie.Need-links-requires
-links-requires c κs = c .before .before .before .before .before .before .before .before .pre (omega (arith, c .before .before .before .if1 .left))
+links-requires c κs = c .before .before .before .before .before .before .before .before .pre .links (omega (arith, c .before .before .before .if1 .left))
 
 cast-right : tie.Need-cast-right
-cast-right c = let a = c .before .before .before .before .before .before .before .before .before .before .before .before .before .before .pre (omega (arith, c .before .before .before .before .before .before .before .before .before .if1 .left)) in omega (arith, c .before .before .before .before .before .links .ensures .within)
+cast-right c = let a = c .before .before .before .before .before .before .before .before .before .before .before .before .before .before .pre .links (omega (arith, c .before .before .before .before .before .before .before .before .before .if1 .left)) in omega (arith, c .before .before .before .before .before .links .ensures .within)
 
 mul-right : tie.Need-mul-right
-mul-right c = let a = c .before .before .before .before .before .before .before .before .before .before .before .before .before .before .pre (omega (arith, c .before .before .before .before .before .before .before .before .before .if1 .left)) in omega (arith, a .low, a .bests .size, a .right-size, c .before .before .before .before .before .before .before .before .before .before .before .before .before .before .good)
+mul-right c = let a = c .before .before .before .before .before .before .before .before .before .before .before .before .before .before .pre .links (omega (arith, c .before .before .before .before .before .before .before .before .before .if1 .left)) in omega (arith, a .low, a .bests .size, a .right-size, c .before .before .before .before .before .before .before .before .before .before .before .before .before .before .good)
 
 slice-write-right : tie.Need-slice-write-right
-slice-write-right c = let a = c .before .before .before .before .before .before .before .before .before .before .before .before .before .before .pre (omega (arith, c .before .before .before .before .before .before .before .before .before .if1 .left)) in omega (arith, a .low, a .bests .size, a .right-size)
+slice-write-right c = let a = c .before .before .before .before .before .before .before .before .before .before .before .before .before .before .pre .links (omega (arith, c .before .before .before .before .before .before .before .before .before .if1 .left)) in omega (arith, a .low, a .bests .size, a .right-size)
 
 same-length : tie.Need-same-length
 same-length c = search needs
@@ -31,7 +31,7 @@ same-length-3 : tie.Need-same-length-3
 same-length-3 c = search needs
 
 returns-2 : tie.Need-returns-2
-returns-2 c = joins-some _ _ _ _ _ _ _ _ _ _ (c .before .before .before .before .before .before .before .before .before .if1 .left) refl (c .before .before .before .before .before .links .ensures)
+returns-2 c = joins-some _ _ _ _ _ _ _ _ _ _ _ (c .before .before .before .before .before .before .before .before .before .if1 .left) refl (c .before .before .before .before .before .links .ensures)
 
 pub join-spec : {M : Type 1} → statement M
 join-spec =

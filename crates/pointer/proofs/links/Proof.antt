@@ -9,10 +9,10 @@ use Rattle.pointer.proofs.links.Statement.{statement}
 use Rattle.pointer.proofs.links.Tie as tie
 
 abbrev Inv-loop : tie.InvT-loop
-Inv-loop i best left₀ right moves₀ own k₀ taken₀ left moves k taken = Joining i best left₀ right moves₀ left moves k taken
+Inv-loop i best left₀ right moves₀ count own k₀ taken₀ left moves k taken = Joining i best left₀ right count moves₀ left moves k taken
 
 abbrev μ-loop : tie.MeasureT-loop
-μ-loop i best left₀ right moves₀ own k₀ taken₀ left moves k taken = length best - k
+μ-loop i best left₀ right moves₀ count own k₀ taken₀ left moves k taken = length best - k
 
 mul-own : tie.Need-mul-own Inv-loop μ-loop
 mul-own c = omega (arith, c .before .before .before .before .pre .low, c .before .before .before .before .pre .bests .size, c .before .before .before .before .good)
@@ -24,7 +24,7 @@ add-k : tie.Need-add-k Inv-loop μ-loop
 add-k c = omega (arith, c .before .before .before .before .before .pre .low, c .before .before .before .before .before .pre .bests .size, c .before .before .before .before .before .good)
 
 loop-holds : tie.Need-loop-holds Inv-loop μ-loop
-loop-holds c = joining-first _ _ _ _ _ (c .before .before .before .before .before .pre)
+loop-holds c = joining-first _ _ _ _ _ _ (c .before .before .before .before .before .pre)
 
 mul-if1 : tie.Need-mul-if1 Inv-loop μ-loop
 mul-if1 c = omega (arith, c .loop .inv .within, c .before .before .before .before .before .before .good)
@@ -47,12 +47,12 @@ cast-wide c = omega (arith, c .before .before .before .loop .inv .within, c .bef
 put-requires : tie.Need-put-requires Inv-loop μ-loop
 put-requires c κs =
     record {
-      place = omega (arith, join-place _ _ _ _ _ (c .before .before .before .before .before .before .before .before .before .pre) _ _ _ _ (c .before .before .before .loop .inv) _ refl (c .before .if1 .taken), joining-length _ _ _ _ _ (c .before .before .before .before .before .before .before .before .before .pre) _ _ _ _ (c .before .before .before .loop .inv));
+      place = omega (arith, join-place _ _ _ _ _ _ (c .before .before .before .before .before .before .before .before .before .pre) _ _ _ _ (c .before .before .before .loop .inv) _ refl (c .before .if1 .taken), joining-length _ _ _ _ _ _ (c .before .before .before .before .before .before .before .before .before .pre) _ _ _ _ (c .before .before .before .loop .inv));
       index = omega (arith, c .before .before .before .loop .inv .within, c .before .before .before .before .before .before .before .before .before .pre .bests .size, c .before .before .before .before .before .before .before .before .before .pre .bests .passed .few);
     }
 
 add-taken : tie.Need-add-taken Inv-loop μ-loop
-add-taken c = omega (arith, join-place _ _ _ _ _ (c .before .before .before .before .before .before .before .before .before .before .before .before .pre) _ _ _ _ (c .before .before .before .before .before .before .loop .inv) _ refl (c .before .before .before .before .if1 .taken), c .before .before .before .before .before .before .before .before .before .before .before .before .good)
+add-taken c = omega (arith, join-place _ _ _ _ _ _ (c .before .before .before .before .before .before .before .before .before .before .before .before .pre) _ _ _ _ (c .before .before .before .before .before .before .loop .inv) _ refl (c .before .before .before .before .if1 .taken), c .before .before .before .before .before .before .before .before .before .before .before .before .good)
 
 mul-wide : tie.Need-mul-wide Inv-loop μ-loop
 mul-wide c = omega (arith, c .before .before .before .before .before .before .loop .inv .within, c .before .before .before .before .before .before .before .before .before .before .before .before .pre .right-size, c .before .before .before .before .before .before .before .before .before .before .before .before .good)
@@ -64,19 +64,19 @@ wide-requires : tie.Need-wide-requires Inv-loop μ-loop
 wide-requires c κs = search needs
 
 loop-less : tie.Need-loop-less Inv-loop μ-loop
-loop-less c = omega (arith, c .before .before .before .before .before .before .before .before .loop .inv .within, c .wide .ensures, c .before .before .before .before .before .before .before .before .before .before .before .before .before .before .pre .rises _ (c .before .before .before .before .before .before .before .before .loop .inv .above) (join-early _ _ _ _ _ (c .before .before .before .before .before .before .before .before .before .before .before .before .before .before .pre) _ _ _ _ (c .before .before .before .before .before .before .before .before .loop .inv) _ refl (c .before .before .before .before .before .before .if1 .taken)))
+loop-less c = omega (arith, c .before .before .before .before .before .before .before .before .loop .inv .within, c .wide .ensures, c .before .before .before .before .before .before .before .before .before .before .before .before .before .before .pre .rises _ (c .before .before .before .before .before .before .before .before .loop .inv .above) (join-early _ _ _ _ _ _ (c .before .before .before .before .before .before .before .before .before .before .before .before .before .before .pre) _ _ _ _ (c .before .before .before .before .before .before .before .before .loop .inv) _ refl (c .before .before .before .before .before .before .if1 .taken)))
 
 loop-again : tie.Need-loop-again Inv-loop μ-loop
-loop-again c = join-on _ _ _ _ _ (c .before .before .before .before .before .before .before .before .before .before .before .before .before .before .pre) _ _ _ _ (c .before .before .before .before .before .before .before .before .loop .inv) _ refl (c .before .before .before .before .before .before .if1 .taken) _ _ (c .wide .ensures) (c .before .before .before .before .put .ensures)
+loop-again c = join-on _ _ _ _ _ _ (c .before .before .before .before .before .before .before .before .before .before .before .before .before .before .pre) _ _ _ _ (c .before .before .before .before .before .before .before .before .loop .inv) _ refl (c .before .before .before .before .before .before .if1 .taken) _ _ (c .wide .ensures) (c .before .before .before .before .put .ensures)
 
 same-length : tie.Need-same-length Inv-loop μ-loop
 same-length c = c .before .before .loop .inv .size
 
 same-length-2 : tie.Need-same-length-2 Inv-loop μ-loop
-same-length-2 c = joining-length _ _ _ _ _ (c .before .before .before .before .before .before .before .before .pre) _ _ _ _ (c .before .before .loop .inv)
+same-length-2 c = joining-length _ _ _ _ _ _ (c .before .before .before .before .before .before .before .before .pre) _ _ _ _ (c .before .before .loop .inv)
 
 returns : tie.Need-returns Inv-loop μ-loop
-returns c = join-stop _ _ _ _ _ (c .before .before .before .before .before .before .before .before .pre) _ _ _ _ (c .before .before .loop .inv) _ refl (c .if1 .left)
+returns c = join-stop _ _ _ _ _ _ (c .before .before .before .before .before .before .before .before .pre) _ _ _ _ (c .before .before .loop .inv) _ refl (c .if1 .left)
 
 pub links-spec : {M : Type 1} → statement M
 links-spec =

@@ -15,16 +15,16 @@ same-length : tie.Need-same-length
 same-length c = search needs
 
 returns : tie.Need-returns
-returns c = considering-long _ _ _ _ _ _ _ _ _ (c .before .before .before .before .before .before .before .before .before .before .before .pre) _ _ _ _ _ (c .before .before .before .before .before .before .line .ensures) (c .before .before .before .before .if1 .taken) (c .before .before .pass .ensures)
+returns c = considering-long _ _ _ _ _ _ _ _ _ _ (c .before .before .before .before .before .before .before .before .before .before .before .pre) _ _ _ _ _ (c .before .before .before .before .before .before .line .ensures) (c .before .before .before .before .if1 .taken) (c .before .before .pass .ensures)
 
 sub-if2 : tie.Need-sub-if2
-sub-if2 c = omega (arith, above _ _ _ _ _ _ _ _ _ (c .before .before .before .before .before .before .before .pre))
+sub-if2 c = omega (arith, above _ _ _ _ _ _ _ _ _ _ (c .before .before .before .before .before .before .before .pre))
 
 mul-if2 : tie.Need-mul-if2
-mul-if2 c = omega (arith, above _ _ _ _ _ _ _ _ _ (c .before .before .before .before .before .before .before .pre), c .before .before .before .before .before .before .before .pre .queued .within, c .before .before .before .before .before .before .before .pre .words .same, c .before .before .before .before .before .before .before .pre .words .few)
+mul-if2 c = omega (arith, above _ _ _ _ _ _ _ _ _ _ (c .before .before .before .before .before .before .before .pre), c .before .before .before .before .before .before .before .pre .queued .within, c .before .before .before .before .before .before .before .pre .words .same, c .before .before .before .before .before .before .before .pre .words .few)
 
 shared-slice-read-if2 : tie.Need-shared-slice-read-if2
-shared-slice-read-if2 c = omega (arith, above _ _ _ _ _ _ _ _ _ (c .before .before .before .before .before .before .before .before .pre), c .before .before .before .before .before .before .before .before .pre .queued .within, c .before .before .before .before .before .before .before .before .pre .words .same)
+shared-slice-read-if2 c = omega (arith, above _ _ _ _ _ _ _ _ _ _ (c .before .before .before .before .before .before .before .before .pre), c .before .before .before .before .before .before .before .before .pre .queued .within, c .before .before .before .before .before .before .before .before .pre .words .same)
 
 pass-requires-2 : tie.Need-pass-requires-2
 pass-requires-2 c κs = (omega (arith, c .before .before .before .before .before .before .before .before .before .before .pre .enough), omega (arith, c .before .before .before .before .before .before .before .before .before .before .pre .queued .within, c .before .before .before .before .before .before .before .before .before .before .pre .words .few))
@@ -33,10 +33,10 @@ same-length-2 : tie.Need-same-length-2
 same-length-2 c = search needs
 
 returns-2 : tie.Need-returns-2
-returns-2 c = considering-none _ _ _ _ _ _ _ _ _ (c .before .before .before .before .before .before .before .before .before .before .before .before .before .pre) _ _ _ _ (c .before .before .before .before .if2 .taken) (c .before .before .pass2 .ensures)
+returns-2 c = considering-none _ _ _ _ _ _ _ _ _ _ (c .before .before .before .before .before .before .before .before .before .before .before .before .before .pre) _ _ _ _ (c .before .before .before .before .if2 .taken) (c .before .before .pass2 .ensures)
 
 add-requires : tie.Need-add-requires
-add-requires c κs = considering-add _ _ _ _ _ _ _ _ _ (c .before .before .before .before .before .before .before .before .before .before .before .pre) _ (c .before .before .before .before .before .before .line .ensures) (c .before .before .before .before .if1 .left) (c .before .before .if2 .left)
+add-requires c κs = considering-add _ _ _ _ _ _ _ _ _ _ (c .before .before .before .before .before .before .before .before .before .before .before .pre) _ (c .before .before .before .before .before .before .line .ensures) (c .before .before .before .before .if1 .left) (c .before .before .if2 .left)
 
 same-length-3 : tie.Need-same-length-3
 same-length-3 c = search needs
@@ -45,7 +45,7 @@ same-length-4 : tie.Need-same-length-4
 same-length-4 c = search needs
 
 returns-3 : tie.Need-returns-3
-returns-3 c = considering-done _ _ _ _ _ _ _ _ _ (c .before .before .before .before .before .before .before .before .before .before .before .before .before .before .before .before .pre) _ _ _ _ _ _ (c .before .before .before .before .before .before .before .before .before .before .before .line .ensures) (c .before .before .before .before .before .before .before .before .before .if1 .left) (c .before .before .before .before .before .before .before .if2 .left) (c .before .before .before .before .add .ensures)
+returns-3 c = considering-done _ _ _ _ _ _ _ _ _ _ (c .before .before .before .before .before .before .before .before .before .before .before .before .before .before .before .before .pre) _ _ _ _ _ _ (c .before .before .before .before .before .before .before .before .before .before .before .line .ensures) (c .before .before .before .before .before .before .before .before .before .if1 .left) (c .before .before .before .before .before .before .before .if2 .left) (c .before .before .before .before .add .ensures)
 
 pub consider-spec : {M : Type 1} → statement M
 consider-spec =
