@@ -3,7 +3,7 @@ use Prim.Native.Nat.{ℕ, _+_, _-_, _*_, _^_, _≤_, _<_}
 use mathlib.Core.Path.{_≡_}
 use mathlib.Core.List.{List, [], _∷_, _++_, map}
 use lib.Dec.{leb}
-use lib.ListN.{length, set}
+use lib.ListN.{length, set, replicate}
 use Rattle.laws.specs.Number.{if}
 use Rattle.laws.specs.Strip.{over}
 use Rattle.paper.specs.declared.Limits.{Limits}
@@ -12,7 +12,7 @@ use Rattle.paper.specs.Allowed.{limitsHold, Passed}
 use Rattle.paper.specs.Moves.{code}
 use Rattle.paper.specs.Paragraph as Paragraph
 use Rattle.paper.specs.QueueRules.{Text, F, front, queueMoves}
-use Rattle.paper.specs.Strips.{entries, bestEntry, ParagraphStrips, ParagraphOutcome}
+use Rattle.paper.specs.Strips.{entries, sums, bestEntry, ParagraphStrips, ParagraphOutcome}
 use Rattle.strips.specs.Words.{Holds}
 use Rattle.queue.specs.declared.Queue.{Queue}
 use Rattle.queue.specs.Asks.{Words, Queued}
@@ -56,21 +56,41 @@ pub record StartsAsk (l : Limits) (S B N Q m : List ℕ) : Type 0 where
   pub queue : length Q + 1 ≡ length S
   pub moves : 2 * length Q ≤ length m
 
+abbrev pub bests : Limits → List ℕ → List ℕ
+bests l ws = entries (λ i. bestEntry (Paragraph.best l ws i)) 1 (length ws + 1)
+
+abbrev pub nexts : Limits → List ℕ → List ℕ
+nexts l ws = entries (Paragraph.chosenNext l ws) 1 (length ws) ++ (0 ∷ [])
+
 -- the bests, the chosen nexts and the moves of the text ws
 pub record Starts (l : Limits) (ws m₀ : List ℕ) (count : ℕ) (B N m : List ℕ) : Type 0 where
-  pub best : B ≡ entries (λ i. bestEntry (Paragraph.best l ws i)) 1 (length ws + 1)
-  pub next : N ≡ entries (Paragraph.chosenNext l ws) 1 (length ws) ++ (0 ∷ [])
+  pub best : B ≡ bests l ws
+  pub next : N ≡ nexts l ws
   pub moves : m ≡ over (map code (queueMoves l ws)) m₀
   pub counted : count ≡ length (queueMoves l ws)
 
--- ---- the whole, on strips that may be longer
-pub record SetAsks (l : Limits) (ws : List ℕ) (s : ParagraphStrips) : Type 0 where
+-- ---- the strips, which may be longer
+-- a text that refusals 1 to 5 pass, but for the room of the breaks
+pub record FillAsks (l : Limits) (ws S B N Q m : List ℕ) : Type 0 where
   pub passed : Passed (limitsHold l) ws
-  pub sums : length ws + 1 ≤ length (s .sums)
-  pub best : length ws + 1 ≤ length (s .best)
-  pub next : length ws + 1 ≤ length (s .next)
-  pub queue : length ws ≤ length (s .queue)
-  pub moves : 2 * length ws ≤ length (s .moves)
+  pub sums : length ws + 1 ≤ length S
+  pub best : length ws + 1 ≤ length B
+  pub next : length ws + 1 ≤ length N
+  pub queue : length ws ≤ length Q
+  pub moves : 2 * length ws ≤ length m
+
+-- each strip has the part used at its front, and its rest as it was
+pub record Filled (l : Limits) (ws S₀ B₀ N₀ Q₀ m₀ : List ℕ) (count : ℕ) (S B N Q m : List ℕ) : Type 0 where
+  pub sums : S ≡ over (sums ws) S₀
+  pub best : B ≡ over (bests l ws) B₀
+  pub next : N ≡ over (nexts l ws) N₀
+  pub queue : Q ≡ over (replicate (length ws) 0) Q₀
+  pub moves : m ≡ over (map code (queueMoves l ws)) m₀
+  pub counted : count ≡ length (queueMoves l ws)
+
+-- a text that refusals 1 to 5 pass
+pub record SetAsks (l : Limits) (ws : List ℕ) (s : ParagraphStrips) : Type 0 where
+  pub fill : FillAsks l ws (s .sums) (s .best) (s .next) (s .queue) (s .moves)
   pub breaks : length ws ≤ length (s .breaks)
 
 -- the answer and the strips are those of the outcome

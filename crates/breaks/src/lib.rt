@@ -14,7 +14,7 @@ ghost use lib.ListN.{length};
 ghost use lib.Seq.{slice};
 ghost use Rattle.lines.specs.Held.{textIn};
 ghost use Rattle.strips.specs.Words.{wordsOf};
-ghost use Rattle.breaks.specs.Asks.{ChooseAsks, Chooses, SettleAsks, Settles, StartsAsk, Starts, SetAsks, Sets};
+ghost use Rattle.breaks.specs.Asks.{ChooseAsks, Chooses, SettleAsks, Settles, StartsAsk, Starts, FillAsks, Filled, SetAsks, Sets};
 ghost use Rattle.paper.specs.Paragraph.{best as bestOf};
 ghost use Rattle.paper.specs.Strips.{paragraphStrips, paragraphSet};
 
@@ -105,6 +105,33 @@ fn starts(
     q.moves
 }
 
+// Every strip but the breaks. Only the parts used are lent, so the rest stays as it was. Answers the number of moves.
+fn fill(
+    l: Limits,
+    lengths: &[u32],
+    sums: &mut [u32],
+    best: &mut [u64],
+    next: &mut [u32],
+    queue: &mut [u32],
+    moves: &mut [u32],
+) -> usize
+    requires { ⌜ FillAsks l (now lengths) (now sums) (now best) (now next) (now queue) (now moves) ⌝ }
+    ensures { λ r. ⌜ Filled l (now (lengths .entry)) (now (sums .entry)) (now (best .entry)) (now (next .entry)) (now (queue .entry)) (now (moves .entry)) r (now (sums .exit)) (now (best .exit)) (now (next .exit)) (now (queue .exit)) (now (moves .exit)) ⌝ }
+{
+    let n = lengths.len();
+    fill_sums(lengths, sums);
+    let taken = starts(
+        l,
+        &sums[..n + 1],
+        &mut best[..n + 1],
+        &mut next[..n + 1],
+        &mut queue[..n],
+        moves,
+    );
+    clear(queue, n);
+    taken
+}
+
 // Sets a paragraph that refusals 1 to 5 pass.
 pub fn set(
     l: Limits,
@@ -119,22 +146,12 @@ pub fn set(
     requires { ⌜ SetAsks l (now lengths) (paragraphStrips (now sums) (now best) (now next) (now queue) (now moves) (now breaks)) ⌝ }
     ensures { λ r. ⌜ Sets (paragraphSet l (now (lengths .entry)) (paragraphStrips (now (sums .entry)) (now (best .entry)) (now (next .entry)) (now (queue .entry)) (now (moves .entry)) (now (breaks .entry))) (bestOf l (now (lengths .entry)) 1)) r (paragraphStrips (now (sums .exit)) (now (best .exit)) (now (next .exit)) (now (queue .exit)) (now (moves .exit)) (now (breaks .exit))) ⌝ }
 {
-    let n = lengths.len();
-    fill_sums(lengths, sums);
-    let taken = starts(
-        l,
-        &sums[..n + 1],
-        &mut best[..n + 1],
-        &mut next[..n + 1],
-        &mut queue[..n],
-        moves,
-    );
-    clear(queue, n);
+    let taken = fill(l, lengths, sums, best, next, queue, moves);
     let total = best[0];
     if total == NONE {
         return Answer::None { moves: taken };
     }
-    let lines = follow(next, 1, n, 1, breaks);
+    let lines = follow(next, 1, lengths.len(), 1, breaks);
     Answer::Set {
         total,
         lines,

@@ -40,7 +40,10 @@ module _ (l : Limits) (ws : List ℕ) (s : ParagraphStrips) (hold : Bool) (h : h
         let r4 = room-here _ _ _ _ 4 (omega arith) (r3 .1) in
         let r5 = room-here _ _ _ _ 5 (omega arith) (r4 .1) in
         let r6 = room-here _ _ _ _ 6 (omega arith) (r5 .1) in
-        record { passed = rw h at (a .passed); sums = r1 .0; best = r2 .0; next = r3 .0; queue = r4 .0; moves = r5 .0; breaks = r6 .0 }
+        record {
+          fill = record { passed = rw h at (a .passed); sums = r1 .0; best = r2 .0; next = r3 .0; queue = r4 .0; moves = r5 .0 };
+          breaks = r6 .0;
+        }
 
     pub paragraph-kept : (r : Answer) (t : ParagraphStrips) → Sets (paragraphSet l ws s (best l ws 1)) r t → ParagraphPromise (paragraphOutcome l ws s) r t
     unfolding paragraphOutcome paragraphChecked

@@ -1,54 +1,12 @@
 -- `breaks::set` meets its contract. Assumes nothing.
-use native.Mathlib.Omega.{arith}
-use mathlib.Core.Path.{refl, sym}
-use denote.Ref.{now}
-use lib.Seq.{length-take-le}
-use Rattle.breaks.proofs.Setting.{setting-starts, setting-none, setting-follow, setting-set}
+use mathlib.Core.Path.{refl}
+use Rattle.breaks.proofs.Setting.{setting-none, setting-follow, setting-set}
 use borrow.Author.Needs.{needs}
 use Rattle.breaks.proofs.set.Statement.{statement}
 use Rattle.breaks.proofs.set.Tie as tie
 
-fill-sums-requires : tie.Need-fill-sums-requires
-fill-sums-requires c κs = search needs
-
-add-starts : tie.Need-add-starts
-add-starts c = search needs
-
-slice-reshare-prefix-starts : tie.Need-slice-reshare-prefix-starts
-slice-reshare-prefix-starts c = search needs
-
-slice-aggregate-starts : tie.Need-slice-aggregate-starts
-slice-aggregate-starts c = sym (length-take-le _ (c .before .before .before .fill-sums .last .1 .0) (omega (arith, c .before .before .before .before .before .before .before .before .before .before .before .before .pre .sums, c .before .before .before .fill-sums .kept)))
-
-add-starts-2 : tie.Need-add-starts-2
-add-starts-2 c = search needs
-
-slice-relend-prefix-starts : tie.Need-slice-relend-prefix-starts
-slice-relend-prefix-starts c = search needs
-
-slice-aggregate-starts-2 : tie.Need-slice-aggregate-starts-2
-slice-aggregate-starts-2 c = sym (length-take-le _ (now (c .before .before .before .before .before .before .before .before .before .before .before .before .before .args .best)) (c .before .before .before .before .before .before .before .before .before .before .before .before .before .pre .best))
-
-add-starts-3 : tie.Need-add-starts-3
-add-starts-3 c = search needs
-
-slice-relend-prefix-starts-2 : tie.Need-slice-relend-prefix-starts-2
-slice-relend-prefix-starts-2 c = search needs
-
-slice-aggregate-starts-3 : tie.Need-slice-aggregate-starts-3
-slice-aggregate-starts-3 c = sym (length-take-le _ (now (c .before .before .before .before .before .before .before .before .before .before .before .before .before .before .args .next)) (c .before .before .before .before .before .before .before .before .before .before .before .before .before .before .pre .next))
-
-slice-relend-prefix-starts-3 : tie.Need-slice-relend-prefix-starts-3
-slice-relend-prefix-starts-3 c = search needs
-
-slice-aggregate-starts-4 : tie.Need-slice-aggregate-starts-4
-slice-aggregate-starts-4 c = sym (length-take-le _ (now (c .before .before .before .before .before .before .before .before .before .before .before .before .before .before .before .args .queue)) (c .before .before .before .before .before .before .before .before .before .before .before .before .before .before .before .pre .queue))
-
-starts-requires : tie.Need-starts-requires
-starts-requires c κs = setting-starts _ _ _ (c .before .before .before .before .before .before .before .before .before .before .before .before .before .before .before .before .pre) _ (c .before .before .before .before .before .before .before .fill-sums .ensures)
-
-clear-requires : tie.Need-clear-requires
-clear-requires c κs = search needs
+fill-requires : tie.Need-fill-requires
+fill-requires c κs = c .before .before .before .before .before .before .before .before .before .before .before .before .pre .fill
 
 slice-read-total : tie.Need-slice-read-total
 slice-read-total c = search needs
@@ -69,10 +27,10 @@ same-length-5 : tie.Need-same-length-5
 same-length-5 c = search needs
 
 returns : tie.Need-returns
-returns c = setting-none _ _ _ (c .before .before .before .before .before .before .before .before .before .before .before .before .before .before .before .before .before .before .before .before .before .before .before .before .before .before .before .before .before .before .before .pre) _ (c .before .before .before .before .before .before .before .before .before .before .before .before .before .before .before .before .before .before .before .before .before .before .fill-sums .ensures) _ _ (c .before .before .before .before .before .before .before .before .before .before .before .before .before .before .starts .last .1 .1 .1 .1 .0) _ _ (c .before .before .before .before .before .before .before .before .before .before .before .before .before .before .starts .ensures) (c .before .before .before .before .before .before .before .before .before .before .before .before .before .before .starts .kept .1 .1 .1 .1 .0) _ _ refl (c .if1 .taken) (c .before .before .before .before .clear .ensures)
+returns c = setting-none _ _ _ (c .before .before .before .before .before .before .before .before .before .before .before .before .before .before .before .before .before .before .before .before .before .before .before .before .before .pre) _ _ _ _ _ _ (c .before .before .before .before .before .before .before .before .before .before .before .before .fill .ensures) _ refl (c .if1 .taken)
 
 follow-requires : tie.Need-follow-requires
-follow-requires c κs = setting-follow _ _ _ (c .before .before .before .before .before .before .before .before .before .before .before .before .before .before .before .before .before .before .before .before .before .before .before .before .before .before .before .before .before .before .before .before .before .pre) _ (c .before .before .before .before .before .before .before .before .before .before .before .before .before .before .before .before .before .before .before .before .before .before .before .before .fill-sums .ensures) _ _ (c .before .before .before .before .before .before .before .before .before .before .before .before .before .before .before .before .starts .last .1 .1 .1 .1 .0) _ _ (c .before .before .before .before .before .before .before .before .before .before .before .before .before .before .before .before .starts .ensures) (c .before .before .before .before .before .before .before .before .before .before .before .before .before .before .before .before .starts .kept .1 .1 .1 .1 .0) _ refl (c .before .before .if1 .left)
+follow-requires c κs = setting-follow _ _ _ (c .before .before .before .before .before .before .before .before .before .before .before .before .before .before .before .before .before .before .before .before .before .before .before .before .before .before .before .pre) _ _ _ _ _ _ (c .before .before .before .before .before .before .before .before .before .before .before .before .before .before .fill .ensures) _ refl (c .before .before .if1 .left)
 
 same-length-6 : tie.Need-same-length-6
 same-length-6 c = search needs
@@ -93,26 +51,13 @@ same-length-11 : tie.Need-same-length-11
 same-length-11 c = search needs
 
 returns-2 : tie.Need-returns-2
-returns-2 c = setting-set _ _ _ (c .before .before .before .before .before .before .before .before .before .before .before .before .before .before .before .before .before .before .before .before .before .before .before .before .before .before .before .before .before .before .before .before .before .before .before .before .pre) _ (c .before .before .before .before .before .before .before .before .before .before .before .before .before .before .before .before .before .before .before .before .before .before .before .before .before .before .before .fill-sums .ensures) _ _ (c .before .before .before .before .before .before .before .before .before .before .before .before .before .before .before .before .before .before .before .starts .last .1 .1 .1 .1 .0) _ _ (c .before .before .before .before .before .before .before .before .before .before .before .before .before .before .before .before .before .before .before .starts .ensures) (c .before .before .before .before .before .before .before .before .before .before .before .before .before .before .before .before .before .before .before .starts .kept .1 .1 .1 .1 .0) _ refl (c .before .before .before .before .before .if1 .left) _ _ _ (c .before .before .before .before .before .before .before .before .before .clear .ensures) (c .before .before .follow .ensures)
+returns-2 c = setting-set _ _ _ (c .before .before .before .before .before .before .before .before .before .before .before .before .before .before .before .before .before .before .before .before .before .before .before .before .before .before .before .before .before .before .pre) _ _ _ _ _ _ (c .before .before .before .before .before .before .before .before .before .before .before .before .before .before .before .before .before .fill .ensures) _ refl (c .before .before .before .before .before .if1 .left) _ _ (c .before .before .follow .ensures)
 
 pub set-spec : {M : Type 1} → statement M
 set-spec =
     tie.close
     (tie.spec
-    fill-sums-requires
-    add-starts
-    slice-reshare-prefix-starts
-    slice-aggregate-starts
-    add-starts-2
-    slice-relend-prefix-starts
-    slice-aggregate-starts-2
-    add-starts-3
-    slice-relend-prefix-starts-2
-    slice-aggregate-starts-3
-    slice-relend-prefix-starts-3
-    slice-aggregate-starts-4
-    starts-requires
-    clear-requires
+    fill-requires
     slice-read-total
     same-length
     same-length-2
