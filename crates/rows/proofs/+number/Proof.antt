@@ -23,105 +23,38 @@ number-at t = and 1 number-kinds.ps (is 1 number-kinds.ps μ-number t) number.Pr
 abbrev number-below : ℕ → In 1 number-kinds.ps
 number-below t = and 1 number-kinds.ps (falls 1 number-kinds.ps _<_ μ-number t) number.Pre
 
-number-digit-of-requires : (t : ℕ) → number-lts.Need-digit-of-requires (
-  digit-of-reads.Asked,
-  digit-of-reads.Learnt,
-  put-reads.Asked,
-  put-reads.Learnt,
-  number-below t,
-  number.Post,
-) (number-at t) number.Post
+abbrev claims : ℕ → number-lts.Claims
+claims t = (digit-of-reads.Asked, digit-of-reads.Learnt, put-reads.Asked, put-reads.Learnt, number-below t, number.Post)
+
+number-digit-of-requires : (t : ℕ) → number-lts.Need-digit-of-requires (claims t) (number-at t) number.Post
 number-digit-of-requires t c κs = c .before .if1 .taken
 
-number-put-requires : (t : ℕ) → number-lts.Need-put-requires (
-  digit-of-reads.Asked,
-  digit-of-reads.Learnt,
-  put-reads.Asked,
-  put-reads.Learnt,
-  number-below t,
-  number.Post,
-) (number-at t) number.Post
+number-put-requires : (t : ℕ) → number-lts.Need-put-requires (claims t) (number-at t) number.Post
 number-put-requires t c κs = omega (arith, last-fits (c .before .before .before .before .args .x) (c .before .before .before .before .args .at) (c .before .before .before .before .pre .1) (c .before .before .if1 .taken), c .digit-of .ensures)
 
-number-same-length : (t : ℕ) → number-lts.Need-same-length (
-  digit-of-reads.Asked,
-  digit-of-reads.Learnt,
-  put-reads.Asked,
-  put-reads.Learnt,
-  number-below t,
-  number.Post,
-) (number-at t) number.Post
+number-same-length : (t : ℕ) → number-lts.Need-same-length (claims t) (number-at t) number.Post
 number-same-length t c = puts-length (c .before .before .put .ensures)
 
-number-returns : (t : ℕ) → number-lts.Need-returns (
-  digit-of-reads.Asked,
-  digit-of-reads.Learnt,
-  put-reads.Asked,
-  put-reads.Learnt,
-  number-below t,
-  number.Post,
-) (number-at t) number.Post
+number-returns : (t : ℕ) → number-lts.Need-returns (claims t) (number-at t) number.Post
 number-returns t c = last-put _ _ (c .before .before .before .before .before .if1 .taken) _ (c .before .before .before .digit-of .ensures) (c .before .before .put .ensures)
 
-number-number-requires : (t : ℕ) → number-lts.Need-number-requires (
-  digit-of-reads.Asked,
-  digit-of-reads.Learnt,
-  put-reads.Asked,
-  put-reads.Learnt,
-  number-below t,
-  number.Post,
-) (number-at t) number.Post
+number-number-requires : (t : ℕ) → number-lts.Need-number-requires (claims t) (number-at t) number.Post
 number-number-requires t c κs = (omega (arith, c .before .before .before .pre .0, c .before .if1 .left), before-fits (c .before .before .before .args .x) (c .before .before .before .args .at) (c .before .before .before .pre .1) (c .before .if1 .left))
 
-number-digit-of-requires-2 : (t : ℕ) → number-lts.Need-digit-of-requires-2 (
-  digit-of-reads.Asked,
-  digit-of-reads.Learnt,
-  put-reads.Asked,
-  put-reads.Learnt,
-  number-below t,
-  number.Post,
-) (number-at t) number.Post
+number-digit-of-requires-2 : (t : ℕ) → number-lts.Need-digit-of-requires-2 (claims t) (number-at t) number.Post
 number-digit-of-requires-2 t c κs = omega arith
 
-number-put-requires-2 : (t : ℕ) → number-lts.Need-put-requires-2 (
-  digit-of-reads.Asked,
-  digit-of-reads.Learnt,
-  put-reads.Asked,
-  put-reads.Learnt,
-  number-below t,
-  number.Post,
-) (number-at t) number.Post
+number-put-requires-2 : (t : ℕ) → number-lts.Need-put-requires-2 (claims t) (number-at t) number.Post
 number-put-requires-2 t c κs = then-fits (c .before .before .before .before .before .before .before .before .args .x) (c .before .before .before .before .before .before .before .before .args .at) (c .before .before .before .before .before .before .if1 .left) _ (c .digit-of2 .ensures) (c .before .before .before .before .number .ensures) (c .before .before .before .before .before .before .before .before .pre .1)
 
-number-same-length-2 : (t : ℕ) → number-lts.Need-same-length-2 (
-  digit-of-reads.Asked,
-  digit-of-reads.Learnt,
-  put-reads.Asked,
-  put-reads.Learnt,
-  number-below t,
-  number.Post,
-) (number-at t) number.Post
+number-same-length-2 : (t : ℕ) → number-lts.Need-same-length-2 (claims t) (number-at t) number.Post
 number-same-length-2 t c = puts-length (c .before .before .put2 .ensures) ∙ puts-length (c .before .before .before .before .before .before .before .number .ensures)
 
-number-returns-2 : (t : ℕ) → number-lts.Need-returns-2 (
-  digit-of-reads.Asked,
-  digit-of-reads.Learnt,
-  put-reads.Asked,
-  put-reads.Learnt,
-  number-below t,
-  number.Post,
-) (number-at t) number.Post
+number-returns-2 : (t : ℕ) → number-lts.Need-returns-2 (claims t) (number-at t) number.Post
 number-returns-2 t c = then-put (c .before .before .before .before .before .before .before .before .before .before .before .args .x) (c .before .before .before .before .before .before .before .before .before .before .before .args .at) (c .before .before .before .before .before .before .before .before .before .if1 .left) _ (c .before .before .before .digit-of2 .ensures) (c .before .before .before .before .before .before .before .number .ensures) (c .before .before .put2 .ensures)
 
 pub +number-spec : {M : Type 1} → statement M
-+number-spec = close μ-number λ t. number-lts.spec (
-  digit-of-reads.Asked,
-  digit-of-reads.Learnt,
-  put-reads.Asked,
-  put-reads.Learnt,
-  number-below t,
-  number.Post,
-)
++number-spec = close μ-number λ t. number-lts.spec (claims t)
     (number-at t)
     number.Post
     (number-digit-of-requires t)
