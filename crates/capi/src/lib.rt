@@ -8,6 +8,7 @@ use paper::Limits;
 use paper::PageLimits;
 use paper::Penalty;
 use paper::Refusal;
+use rules::told_refusal;
 use setter::penalty_alone;
 use setter::set_index;
 use setter::set_paragraph;
@@ -41,28 +42,16 @@ pub struct JobNumbers {
     pub n: u64,
 }
 
-fn refused(number: u32, place: usize) -> Numbers
-    ensures { λ r. ⌜ Tells (record { number = number; place = place; total = 0; lines = 0; moves = 0 }) r ⌝ }
-{
-    Numbers {
-        number,
-        place: place as u64,
-        total: 0,
-        lines: 0,
-        moves: 0,
-    }
-}
-
 fn tell_refusal(r: Refusal) -> Numbers
     ensures { λ t. ⌜ Tells (toldRefusal r) t ⌝ }
 {
-    match r {
-        Refusal::Empty => refused(1, 0),
-        Refusal::Many => refused(2, 0),
-        Refusal::Limits => refused(3, 0),
-        Refusal::Length(word) => refused(4, word),
-        Refusal::Room(strip) => refused(5, strip),
-        Refusal::Job(offset) => refused(7, offset),
+    let t = told_refusal(r);
+    Numbers {
+        number: t.number,
+        place: t.place as u64,
+        total: 0,
+        lines: 0,
+        moves: 0,
     }
 }
 

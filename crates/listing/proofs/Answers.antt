@@ -18,10 +18,10 @@ use Rattle.job.specs.Promise as Reader·Promise
 use Rattle.job.specs.Promise.{toldJob, accepted-writes}
 use Rattle.job.specs.Fits.{read-fits}
 use Rattle.listing.specs.declared.Listed.{Listed}
-use Rattle.listing.specs.declared.refusal.Reason.{Reason}
+use Rattle.rules.specs.declared.Reason.{Reason}
+use Rattle.rules.specs.Tells.{Tells}
 use Rattle.listing.specs.Listing.{refused, refusal, listed, paragraphListing, indexListing, listingOf}
 use Rattle.listing.specs.Promise.{Promise, outcome}
-use Rattle.listing.specs.Asks.{Tells}
 use Rattle.listing.proofs.Settings.{front-is}
 
 -- the lengths strip that is lent

@@ -22,12 +22,13 @@ use Rattle.paper.specs.Strips.{IndexStrips, indexStrips, IndexOutcome, indexHas
 use Rattle.rules.specs.Accepted.{accepted}
 use Rattle.setter.specs.Promise.{IndexPromise}
 use Rattle.listing.specs.declared.Listed.{Listed}
-use Rattle.listing.specs.declared.refusal.Reason.{Reason}
+use Rattle.rules.specs.declared.Reason.{Reason}
+use Rattle.rules.specs.Tells.{Tells}
 use Rattle.listing.specs.Listing as Listing
 use Rattle.listing.specs.Listing.{refused, refusal, indexRows, indexListing}
 use Rattle.listing.specs.Promise.{Promise, outcome}
 use Rattle.listing.specs.Size.{setting-count, index-size}
-use Rattle.listing.specs.Asks.{Tells, Item, PagesAsk}
+use Rattle.listing.specs.Asks.{Item, PagesAsk}
 use Rattle.listing.proofs.Settings.{Unset, set-not, all-long, roomy, front-is}
 
 -- ---- the boundaries of an admissible sequence are items

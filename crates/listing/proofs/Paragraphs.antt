@@ -18,11 +18,12 @@ use Rattle.paper.specs.Told.{told}
 use Rattle.setter.specs.Promise.{ParagraphPromise}
 use Rattle.strips.specs.Words.{length-sums}
 use Rattle.listing.specs.declared.Listed.{Listed}
-use Rattle.listing.specs.declared.refusal.Reason.{Reason}
+use Rattle.rules.specs.declared.Reason.{Reason}
+use Rattle.rules.specs.Tells.{Tells}
 use Rattle.listing.specs.Listing.{refused, paragraphRows, paragraphListing}
 use Rattle.listing.specs.Promise.{Promise, outcome}
 use Rattle.listing.specs.Size.{setting-count, paragraph-size}
-use Rattle.listing.specs.Asks.{Tells, Line, Starts, RowsAsk}
+use Rattle.listing.specs.Asks.{Line, Starts, RowsAsk}
 use Rattle.listing.proofs.Settings.{Unset, Lent, front-is, ParagraphGiven, paragraph-unset, paragraph-given}
 
 -- ---- the starts of an admissible setting, each with the next

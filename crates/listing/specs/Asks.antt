@@ -8,13 +8,7 @@ use Rattle.paper.specs.Allowed.{limitsHold, Passed}
 use Rattle.paper.specs.Paragraph.{end}
 use Rattle.paper.specs.Strips.{sums}
 use Rattle.rows.specs.Puts.{Fits}
-use Rattle.listing.specs.declared.refusal.Reason.{Reason}
 use Rattle.listing.specs.Listing.{lineRow, lineRows, paragraphRows, boundaryRow, boundaryRows, indexRows}
-
--- a refusal's number and place
-pub record Tells (number place : ℕ) (r : Reason) : Type 0 where
-  pub is-number : r .number ≡ number
-  pub is-place : r .place ≡ place
 
 -- ---- the paragraph
 -- a text that refusals 1 to 4 pass, with its sums

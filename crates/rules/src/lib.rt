@@ -1,4 +1,4 @@
-// The ranges of the numbers allowed, and refusals 1 to 5 in their order.
+// The ranges of the numbers allowed, refusals 1 to 5 in their order, and the number and place that each refusal tells.
 use paper::Checked;
 use paper::Limits;
 use paper::PageLimits;
@@ -8,7 +8,8 @@ ghost use Prim.Native.Nat.{_≤_};
 ghost use lib.Dec.{eqb};
 ghost use lib.ListN.{length};
 ghost use Rattle.paper.specs.Allowed.{lengthHolds, limitsHold, pageLimitsHold};
-ghost use Rattle.paper.specs.Told.{firstFailing, firstShort, checked};
+ghost use Rattle.paper.specs.Told.{toldRefusal, firstFailing, firstShort, checked};
+ghost use Rattle.rules.specs.Tells.{Tells};
 
 pub fn limits_hold(l: Limits) -> bool
     ensures { λ r. ⌜ r ≡ limitsHold l ⌝ }
@@ -119,4 +120,29 @@ pub fn check(hold: bool, lengths: &[u32], has: &[usize], needs: &[usize]) -> Che
         return Checked::Refuse(Refusal::Room(strip));
     }
     Checked::Accept
+}
+
+// 01's number and place.
+pub struct Reason {
+    pub number: u32,
+    pub place: usize,
+}
+
+fn told(number: u32, place: usize) -> Reason
+    ensures { λ r. ⌜ Tells number place r ⌝ }
+{
+    Reason { number, place }
+}
+
+pub fn told_refusal(r: Refusal) -> Reason
+    ensures { λ t. ⌜ Tells (toldRefusal r .number) (toldRefusal r .place) t ⌝ }
+{
+    match r {
+        Refusal::Empty => told(1, 0),
+        Refusal::Many => told(2, 0),
+        Refusal::Limits => told(3, 0),
+        Refusal::Length(word) => told(4, word),
+        Refusal::Room(strip) => told(5, strip),
+        Refusal::Job(offset) => told(7, offset),
+    }
 }

@@ -6,6 +6,9 @@ use borrow.Author.Needs.{needs}
 use Rattle.listing.proofs.refusal.refused.Statement.{statement}
 use Rattle.listing.proofs.refusal.refused.Tie as tie
 
+cast-t7 : tie.Need-cast-t7
+cast-t7 c = search needs
+
 slice-relend-prefix-named : tie.Need-slice-relend-prefix-named
 slice-relend-prefix-named c = search needs
 
@@ -20,7 +23,7 @@ slice-aggregate-named-3 c = search needs
 
 named-requires : tie.Need-named-requires
 unfolding refused
-named-requires c κs = refused-fits _ _ (omega (arith, c .before .before .before .before .good)) (omega (arith, c .before .before .before .before .good))
+named-requires c κs = refused-fits _ _ (omega (arith, c .before .before .before .before .before .good)) (omega (arith, c .before .before .before .before .before .good))
 
 same-length : tie.Need-same-length
 same-length c = search needs
@@ -37,7 +40,7 @@ slice-aggregate-named-5 c = search needs
 
 named-requires-2 : tie.Need-named-requires-2
 unfolding refused
-named-requires-2 c κs = refused-fits _ _ (omega (arith, c .before .before .before .before .before .before .before .before .before .before .before .good)) (omega (arith, c .before .before .before .before .before .before .before .before .before .before .before .good))
+named-requires-2 c κs = refused-fits _ _ (omega (arith, c .before .before .before .before .before .before .before .before .before .before .before .before .good)) (omega (arith, c .before .before .before .before .before .before .before .before .before .before .before .before .good))
 
 same-length-2 : tie.Need-same-length-2
 same-length-2 c = search needs
@@ -50,6 +53,7 @@ pub refused-spec : {M : Type 1} → statement M
 refused-spec =
     tie.close
     (tie.spec
+    cast-t7
     slice-relend-prefix-named
     slice-aggregate-named
     slice-aggregate-named-2
