@@ -1,10 +1,11 @@
-// The pointer rules of document 01, a start at a time. Workshop parts: they ask what their callers meet.
+// The pointer rules of document 01, a start at a time, which has taken `count` moves. Workshop parts: they ask what their callers meet.
 use lines::NONE;
 use lines::long;
 use lines::wide;
 use paper::Kind;
 use paper::Move;
 use paper::PageLimits;
+use strips::Reached;
 use strips::put;
 ghost use mathlib.Core.Path.{_≡_};
 ghost use lib.ListN.{length};
@@ -13,12 +14,6 @@ ghost use Rattle.paper.specs.PointerRules.{steps as isSteps, jumps as isJumps, 
 ghost use Rattle.strips.specs.Running.{Ran};
 ghost use Rattle.strips.specs.Words.{wordsOf};
 ghost use Rattle.pointer.specs.Asks.{pagesIn, GapAsk, StepsAsk, JumpsAsk, LinksAsk, ChoiceAsk, SettleAsk, StartAsk, OwnAsk, JoinAsk, Joined, Joins, Settled, Started};
-
-// The index that a rule came to, and the moves taken so far.
-pub struct Reached {
-    pub at: usize,
-    pub moves: usize,
-}
 
 // Gap(a, b): the lengths strictly between a and b.
 fn gap(sums: &[u32], a: usize, b: usize) -> u32

@@ -1,5 +1,5 @@
-// The queue rules of document 01, a start at a time. The queue stands in its strip from `front` up to `end`. Workshop parts: they
-// ask what their callers meet.
+// The queue rules of document 01, a start at a time. The queue stands in its strip from `front` up to `end`, and the start has taken
+// `count` moves. Workshop parts: they ask what their callers meet.
 use lines::NONE;
 use lines::bridged;
 use lines::line;
@@ -8,6 +8,7 @@ use lines::wide;
 use paper::Kind;
 use paper::Limits;
 use paper::Move;
+use strips::Reached;
 use strips::put;
 ghost use lib.ListN.{length};
 ghost use lib.Seq.{slice};
@@ -16,12 +17,6 @@ ghost use mathlib.Core.List.{List, reverse};
 ghost use Rattle.paper.specs.QueueRules.{dropLong, popWorse, popBridged, add as isAdd, consider as isConsider, dropWorse, atStart};
 ghost use Rattle.lines.specs.Held.{textIn};
 ghost use Rattle.queue.specs.Asks.{DropLongAsks, DropWorseAsks, PopWorseAsks, PopBridgedAsks, AddAsks, ConsiderAsks, CandidatesAsks, StartAsks, Dropped, Popped, Passes, Added, Considered, Left};
-
-// The place in the queue's strip that a rule came to, and the moves taken so far.
-pub struct Reached {
-    pub at: usize,
-    pub moves: usize,
-}
 
 // Where the queue stands in its strip, the next candidate, and the moves taken so far.
 pub struct Queue {

@@ -39,6 +39,12 @@ fn kind_number(k: Kind) -> u32
     }
 }
 
+// The place in the queue, or the index, that a rule came to, and the moves of the start so far.
+pub struct Reached {
+    pub at: usize,
+    pub moves: usize,
+}
+
 // Writes a move to its place in the moves strip, coded as a number.
 pub fn put(moves: &mut [u32], at: usize, m: Move)
     requires { ⌜ MoveAsk (now moves) at m ⌝ }
