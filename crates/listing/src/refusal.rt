@@ -48,7 +48,9 @@ pub fn told_job(j: Job) -> Reason
 pub fn refused(reason: Reason, out: &mut [u8]) -> Listed
     ensures { λ r. ⌜ Promise (outcome (refusedRow (reason .number) (reason .place)) (now (out .entry))) r (now (out .exit)) ⌝ }
 {
-    let numbers = [reason.number as u64, reason.place as u64];
+    let number = reason.number as u64;
+    let place = reason.place as u64;
+    let numbers = [number, place];
     let size = named(&mut out[..0], 0, b"refused", &numbers);
     if out.len() < size {
         return Listed::Short(size);

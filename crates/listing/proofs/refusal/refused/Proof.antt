@@ -6,8 +6,8 @@ use borrow.Author.Needs.{needs}
 use Rattle.listing.proofs.refusal.refused.Statement.{statement}
 use Rattle.listing.proofs.refusal.refused.Tie as tie
 
-cast-t7 : tie.Need-cast-t7
-cast-t7 c = search needs
+cast-number : tie.Need-cast-number
+cast-number c = search needs
 
 slice-relend-prefix-named : tie.Need-slice-relend-prefix-named
 slice-relend-prefix-named c = search needs
@@ -53,7 +53,7 @@ pub refused-spec : {M : Type 1} → statement M
 refused-spec =
     tie.close
     (tie.spec
-    cast-t7
+    cast-number
     slice-relend-prefix-named
     slice-aggregate-named
     slice-aggregate-named-2
