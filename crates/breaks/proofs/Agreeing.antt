@@ -13,16 +13,18 @@ use Rattle.laws.specs.Number.{if}
 use Rattle.laws.specs.Cost.{Cost, none, some}
 use Rattle.laws.specs.Members.{Every}
 use Rattle.paper.specs.declared.Limits.{Limits}
-use Rattle.paper.specs.Allowed.{Ranges, ranges, limitsHold}
+use Rattle.paper.specs.Allowed.{limitsHold}
+use Rattle.paper_theory.specs.Ranges.{Ranges, ranges}
 use Rattle.paper.specs.Paragraph.{line, end, best, chosenNext, penalty}
-use Rattle.paper.specs.Scale.{line-is}
-use Rattle.paper.specs.Bound.{paragraph-bound}
+use Rattle.paper_theory.specs.Scale.{line-is}
+use Rattle.paper_theory.specs.Bound.{paragraph-bound}
 use Rattle.paper.specs.QueueRules.{Standing, textOf, F, front, atStart, afterStarts, queueAt}
 use Rattle.paper.specs.Strips.{bestEntry}
-use Rattle.queue_right.specs.Ready.{Live, ready-at, held-at}
-use Rattle.queue_right.specs.Agree.{Agrees, F-same, atStart-same}
-use Rattle.queue_right.specs.Front.{Chooses, front-is-chosen, short-last}
-use Rattle.lines.specs.Held.{span, costOf, textIn, cost-number}
+use Rattle.queue_theory.specs.Ready.{Live, ready-at, held-at}
+use Rattle.queue_theory.specs.Agree.{Agrees, F-same, atStart-same}
+use Rattle.queue_theory.specs.Front.{Chooses, front-is-chosen, short-last}
+use Rattle.lines.specs.Held.{span, textIn}
+use Rattle.strips.specs.Costs.{costOf, cost-number}
 use Rattle.strips.specs.Words.{wordsOf, Holds, holds-length, holds-entry, holds-rising}
 use Rattle.queue.specs.Asks.{Words, Bests}
 use Rattle.breaks.specs.Asks.{frontBest, takenBest, takenNext}

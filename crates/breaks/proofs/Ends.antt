@@ -18,7 +18,7 @@ use Rattle.paper.specs.Paragraph.{end, chosenNext, paragraph}
 use Rattle.paper.specs.Moves.{Taken, code, still}
 use Rattle.paper.specs.QueueRules.{Standing, afterStarts, queueMoves}
 use Rattle.paper.specs.Strips.{entries, bestEntry}
-use Rattle.paper.specs.Entries.{length-entries, getD-entries}
+use Rattle.paper_theory.specs.Entries.{length-entries, getD-entries}
 use Rattle.strips.specs.Words.{wordsOf, holds-length}
 use Rattle.queue.specs.declared.Queue.{Queue}
 use Rattle.breaks.specs.Asks.{StartsAsk, Starts}

@@ -10,7 +10,7 @@ use Rattle.paper.specs.declared.Limits.{Limits}
 use Rattle.paper.specs.Allowed.{limitsHold}
 use Rattle.paper.specs.Paragraph.{best, chosenNext}
 use Rattle.paper.specs.Strips.{sums, bestEntry}
-use Rattle.paper.specs.Entries.{length-entries}
+use Rattle.paper_theory.specs.Entries.{length-entries}
 use Rattle.strips.specs.Words.{wordsOf, words-of-sums, holds-sums, length-sums}
 use Rattle.breaks.specs.Asks.{StartsAsk, Starts, bests, nexts, FillAsks, Filled}
 

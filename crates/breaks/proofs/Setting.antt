@@ -8,12 +8,12 @@ use Rattle.laws.specs.Cost.{Cost, none, some, Has, has-some}
 use Rattle.laws.specs.Strip.{over, over-nil, over-front, length-over}
 use Rattle.paper.specs.declared.Limits.{Limits}
 use Rattle.paper.specs.declared.Answer.the-variants.{Set, None}
-use Rattle.paper.specs.Allowed.{Ranges, ranges}
-use Rattle.paper.specs.Paragraph.{best, chosenNext, breaks, paragraph}
-use Rattle.paper.specs.Bound.{paragraph-bound}
-use Rattle.paper.specs.Right.{tie, chosen-paragraph, chosen-none}
+use Rattle.paper_theory.specs.Ranges.{Ranges, ranges}
+use Rattle.paper.specs.Paragraph.{best, chosenNext, breaks, paragraph, tie}
+use Rattle.paper_theory.specs.Bound.{paragraph-bound}
+use Rattle.paper_theory.specs.Right.{chosen-paragraph, chosen-none}
 use Rattle.paper.specs.Strips.{entries, bestEntry, ParagraphStrips, paragraphStrips, paragraphWritten, paragraphSet}
-use Rattle.paper.specs.Entries.{length-entries, getD-entries}
+use Rattle.paper_theory.specs.Entries.{length-entries, getD-entries}
 use Rattle.strips.specs.Chain.{nextIn, chain, Leads, chosen-leads, chain-all}
 use Rattle.strips.specs.Asks.{FollowAsk, Followed}
 use Rattle.breaks.specs.Asks.{bests, nexts, Filled, SetAsks, Sets}

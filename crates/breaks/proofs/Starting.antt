@@ -17,7 +17,7 @@ use Rattle.paper.specs.Paragraph.{end, chosenNext}
 use Rattle.paper.specs.Moves.{Taken, code, joined}
 use Rattle.paper.specs.QueueRules.{Standing, textOf, atStart, afterStarts, queueAt}
 use Rattle.paper.specs.Strips.{bestEntry}
-use Rattle.queue_right.specs.Count.{afterStarts-count, moves-so-far}
+use Rattle.queue_theory.specs.Count.{afterStarts-count, moves-so-far}
 use Rattle.lines.specs.Held.{textIn}
 use Rattle.strips.specs.Running.{Ran, ran-lent, map-append, length-codes}
 use Rattle.strips.specs.Words.{wordsOf, Holds, holds-length}

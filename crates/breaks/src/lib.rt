@@ -1,15 +1,15 @@
 // The paragraph, on input that nothing refuses. Workshop parts: they ask what their callers meet.
-use lines::NONE;
 use lines::line;
 use lines::through;
-use lines::wide;
 use paper::Answer;
 use paper::Limits;
 use queue::Queue;
 use queue::at_start;
+use strips::NONE;
 use strips::clear;
 use strips::fill_sums;
 use strips::follow;
+use strips::wide;
 ghost use lib.ListN.{length};
 ghost use lib.Seq.{slice};
 ghost use Rattle.lines.specs.Held.{textIn};

@@ -8,7 +8,7 @@ use paper::Limits;
 use paper::PageLimits;
 use paper::Penalty;
 use paper::Refusal;
-use rules::told_refusal;
+use refusals::told_refusal;
 use setter::penalty_alone;
 use setter::set_index;
 use setter::set_paragraph;

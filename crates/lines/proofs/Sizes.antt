@@ -8,10 +8,11 @@ use lib.Dec.{leb}
 use lib.ListN.{getD}
 use Rattle.laws.specs.Square.{sqd}
 use Rattle.paper.specs.declared.Limits.{Limits}
-use Rattle.paper.specs.Allowed.{Ranges}
+use Rattle.paper_theory.specs.Ranges.{Ranges}
 use Rattle.paper.specs.Paragraph.{penalty}
 use Rattle.paper.specs.QueueRules.{F, edge, chord}
-use Rattle.lines.specs.Held.{span, textIn, value-number}
+use Rattle.lines.specs.Held.{span, textIn}
+use Rattle.strips.specs.Costs.{value-number}
 use Rattle.lines.proofs.Signed.{sqd-fits}
 use Rattle.lines.specs.Asks.{Inside, Numbered, Three, Products}
 

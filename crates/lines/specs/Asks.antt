@@ -3,7 +3,7 @@ use Prim.Native.Nat.{ℕ, _-_, _^_, _≤_, _<_}
 use mathlib.Core.List.{List}
 use lib.ListN.{length, getD}
 use Rattle.paper.specs.declared.Limits.{Limits}
-use Rattle.paper.specs.Allowed.{Ranges}
+use Rattle.paper_theory.specs.Ranges.{Ranges}
 use Rattle.lines.specs.Held.{span}
 
 -- the sums rise

@@ -1,30 +1,16 @@
 // Lines, their penalties, and the test of "bridged", on the strips. Every function here is a workshop part: it asks what its
 // callers meet.
 use paper::Limits;
+use strips::long;
 ghost use mathlib.Core.Path.{_≡_};
 ghost use Prim.Native.Nat.{_+_, _*_, _^_, _≤_, _<_};
 ghost use lib.Dec.{leb};
 ghost use Rattle.laws.specs.Square.{sqd};
-ghost use Rattle.paper.specs.Allowed.{Ranges};
+ghost use Rattle.paper_theory.specs.Ranges.{Ranges};
 ghost use Rattle.paper.specs.Paragraph.{penalty as formula};
 ghost use Rattle.paper.specs.QueueRules.{F, edge as isEdge, chord as isChord, bridged as isBridged};
 ghost use Rattle.lines.specs.Held.{span, textIn};
 ghost use Rattle.lines.specs.Asks.{Span, Inside, Through, Three, Products};
-
-// "No setting" in the best strip: above every number.
-pub const NONE: u64 = 18446744073709551615;
-
-pub fn wide(x: u32) -> usize
-    ensures { λ r. ⌜ r ≡ x ⌝ }
-{
-    x as usize
-}
-
-pub fn long(x: u32) -> u64
-    ensures { λ r. ⌜ r ≡ x ⌝ }
-{
-    x as u64
-}
 
 // Line(i, j): the lengths of words i to j-1.
 pub fn line(sums: &[u32], i: usize, j: usize) -> u32

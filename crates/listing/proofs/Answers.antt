@@ -18,8 +18,8 @@ use Rattle.job.specs.Promise as Reader·Promise
 use Rattle.job.specs.Promise.{toldJob, accepted-writes}
 use Rattle.job.specs.Fits.{read-fits}
 use Rattle.listing.specs.declared.Listed.{Listed}
-use Rattle.rules.specs.declared.Reason.{Reason}
-use Rattle.rules.specs.Tells.{Tells}
+use Rattle.refusals.specs.declared.Reason.{Reason}
+use Rattle.refusals.specs.Tells.{Tells}
 use Rattle.listing.specs.Listing.{refused, refusal, listed, paragraphListing, indexListing, listingOf}
 use Rattle.listing.specs.Promise.{Promise, outcome}
 use Rattle.listing.proofs.Settings.{front-is}

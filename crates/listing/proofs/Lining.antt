@@ -10,9 +10,9 @@ use lib.ListN.{length, getD, drop, List·getD-eq-default}
 use lib.Seq.{getD-drop}
 use Rattle.laws.specs.Number.{if}
 use Rattle.paper.specs.declared.Limits.{Limits}
-use Rattle.paper.specs.Allowed.{Ranges, ranges}
+use Rattle.paper_theory.specs.Ranges.{Ranges, ranges}
 use Rattle.paper.specs.Paragraph.{end, line, penalty, charge}
-use Rattle.paper.specs.Scale.{upTo, upTo-le, upTo-bound, line-is}
+use Rattle.paper_theory.specs.Scale.{upTo, upTo-le, upTo-bound, line-is}
 use Rattle.lines.specs.Held.{span}
 use Rattle.lines.specs.Asks.{Span}
 use Rattle.strips.specs.Words.{length-sums, getD-sums}

@@ -16,14 +16,14 @@ use Rattle.paper.specs.declared.Checked.the-variants.{Accept, Refuse}
 use Rattle.paper.specs.Allowed.{pageLimitsHold, Passed}
 use Rattle.paper.specs.Index.{index, best, boundaries}
 use Rattle.paper.specs.PointerRules.{pointerMoves}
-use Rattle.paper.specs.Right.{index-right}
+use Rattle.paper_theory.specs.Right.{index-right}
 use Rattle.paper.specs.Told.{told, checked}
 use Rattle.paper.specs.Strips.{IndexStrips, indexStrips, IndexOutcome, indexHas, indexNeeds, indexWritten, indexSet, indexChecked, indexOutcome}
-use Rattle.rules.specs.Accepted.{accepted}
+use Rattle.refusals.specs.Accepted.{accepted}
 use Rattle.setter.specs.Promise.{IndexPromise}
 use Rattle.listing.specs.declared.Listed.{Listed}
-use Rattle.rules.specs.declared.Reason.{Reason}
-use Rattle.rules.specs.Tells.{Tells}
+use Rattle.refusals.specs.declared.Reason.{Reason}
+use Rattle.refusals.specs.Tells.{Tells}
 use Rattle.listing.specs.Listing as Listing
 use Rattle.listing.specs.Listing.{refused, refusal, indexRows, indexListing}
 use Rattle.listing.specs.Promise.{Promise, outcome}

@@ -10,16 +10,16 @@ use Rattle.laws.specs.Setting.{Admissible}
 use Rattle.paper.specs.declared.Limits.{Limits}
 use Rattle.paper.specs.declared.Answer.{Answer}
 use Rattle.paper.specs.declared.Answer.the-variants.{Set}
-use Rattle.paper.specs.Allowed.{ranges}
+use Rattle.paper_theory.specs.Ranges.{ranges}
 use Rattle.paper.specs.Paragraph.{end, paragraph, breaks}
-use Rattle.paper.specs.Right.{paragraph-right}
+use Rattle.paper_theory.specs.Right.{paragraph-right}
 use Rattle.paper.specs.Strips.{sums, ParagraphStrips, paragraphStrips, paragraphOutcome}
 use Rattle.paper.specs.Told.{told}
 use Rattle.setter.specs.Promise.{ParagraphPromise}
 use Rattle.strips.specs.Words.{length-sums}
 use Rattle.listing.specs.declared.Listed.{Listed}
-use Rattle.rules.specs.declared.Reason.{Reason}
-use Rattle.rules.specs.Tells.{Tells}
+use Rattle.refusals.specs.declared.Reason.{Reason}
+use Rattle.refusals.specs.Tells.{Tells}
 use Rattle.listing.specs.Listing.{refused, paragraphRows, paragraphListing}
 use Rattle.listing.specs.Promise.{Promise, outcome}
 use Rattle.listing.specs.Size.{setting-count, paragraph-size}

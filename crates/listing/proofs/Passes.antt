@@ -20,8 +20,8 @@ use Rattle.rows.specs.Size.{row-two}
 use Rattle.rows.specs.Puts.{Fits, Puts, puts-counted, puts-over}
 use Rattle.listing.specs.declared.Listed.the-variants.{Written, Short}
 use Rattle.listing.specs.Listing.{refused}
-use Rattle.rules.specs.declared.Reason.{Reason}
-use Rattle.rules.specs.Tells.{Tells}
+use Rattle.refusals.specs.declared.Reason.{Reason}
+use Rattle.refusals.specs.Tells.{Tells}
 use Rattle.listing.specs.Promise.{Promise, outcome}
 
 module _ {bytes : List ℕ} {size : ℕ} {t : List ℕ} (s : List ℕ) (counted : Puts bytes 0 [] size t) where

@@ -25,7 +25,7 @@ use Rattle.paper.specs.Paragraph.{best, breaks}
 use Rattle.paper.specs.QueueRules.{queueMoves}
 use Rattle.paper.specs.Told.{told, checked, firstShort}
 use Rattle.paper.specs.Strips.{sums, ParagraphStrips, ParagraphOutcome, paragraphHas, paragraphNeeds, paragraphWritten, paragraphSet, paragraphChecked, paragraphOutcome}
-use Rattle.rules.specs.Accepted.{accepted}
+use Rattle.refusals.specs.Accepted.{accepted}
 use Rattle.setter.specs.Promise.{ParagraphPromise}
 use Rattle.listing.specs.Listing as Listing
 use Rattle.listing.specs.Listing.{refused, refusal, paragraphRows, paragraphListing}

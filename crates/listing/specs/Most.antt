@@ -19,7 +19,7 @@ use Rattle.paper.specs.Allowed.{mostWords, lengthHolds, limitsHold, pageLimitsH
 use Rattle.paper.specs.Paragraph.{best}
 use Rattle.paper.specs.Index as Index
 use Rattle.paper.specs.Told.{toldRefusal, checked, firstFailing, firstShort}
-use Rattle.rules.specs.Accepted.{accepted}
+use Rattle.refusals.specs.Accepted.{accepted}
 use Rattle.job.specs.declared.Asked.the-variants.{Paragraph as AskedParagraph, Index as AskedIndex}
 use Rattle.job.specs.Reader.{Reading, refuse, accept, reading}
 use Rattle.job.specs.Places.{Told, reading-told}

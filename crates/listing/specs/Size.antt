@@ -8,17 +8,18 @@ use Rattle.laws.specs.Cost.{some}
 use Rattle.laws.specs.Setting.{Problem, Choice, Admissible, admissible-early}
 use Rattle.paper.specs.declared.Limits.{Limits}
 use Rattle.paper.specs.declared.PageLimits.{PageLimits}
-use Rattle.paper.specs.Allowed.{limitsHold, pageLimitsHold, Passed, ranges}
+use Rattle.paper.specs.Allowed.{limitsHold, pageLimitsHold, Passed}
+use Rattle.paper_theory.specs.Ranges.{ranges}
 use Rattle.paper.specs.Paragraph.{end, line, admissible, penalty, charge, paragraph, best, breaks}
 use Rattle.paper.specs.Index as Index
 use Rattle.paper.specs.Index.{item, index, boundaries}
-use Rattle.paper.specs.Scale.{length-holds}
-use Rattle.paper.specs.Bound.{admissible-lmax, charge-bound, paragraph-bound, index-bound}
+use Rattle.paper_theory.specs.Scale.{length-holds}
+use Rattle.paper_theory.specs.Bound.{admissible-lmax, charge-bound, paragraph-bound, index-bound}
 use Rattle.paper.specs.QueueRules.{queueMoves}
 use Rattle.paper.specs.PointerRules.{pointerMoves}
-use Rattle.paper.specs.Right.{paragraph-right, index-right}
-use Rattle.queue_right.specs.Count.{at-most-2n}
-use Rattle.pointer_right.specs.Count.{pointer-count}
+use Rattle.paper_theory.specs.Right.{paragraph-right, index-right}
+use Rattle.queue_theory.specs.Count.{at-most-2n}
+use Rattle.pointer_theory.specs.Count.{pointer-count}
 use Rattle.rows.specs.Rows.{ascii, digits}
 use Rattle.rows.specs.Digits.{digits-width}
 use Rattle.rows.specs.Size.{row-one, row-two}

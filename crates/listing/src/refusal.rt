@@ -2,14 +2,14 @@
 use crate::Listed;
 use job::Job;
 use paper::Answer;
+use refusals::Reason;
+use refusals::told_refusal;
 use rows::named;
-use rules::Reason;
-use rules::told_refusal;
 ghost use Rattle.paper.specs.Told.{told};
 ghost use Rattle.job.specs.Promise.{toldJob};
 ghost use Rattle.listing.specs.Listing.{refused as refusedRow};
 ghost use Rattle.listing.specs.Promise.{outcome, Promise};
-ghost use Rattle.rules.specs.Tells.{Tells};
+ghost use Rattle.refusals.specs.Tells.{Tells};
 
 // Of a setter's answer; 0 where a setting is given.
 pub fn told_answer(a: Answer) -> Reason

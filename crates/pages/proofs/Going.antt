@@ -9,9 +9,9 @@ use Rattle.laws.specs.Strip.{over, onward-zero, onward-nil, lent-is, append-nil
 use Rattle.paper.specs.declared.PageLimits.{PageLimits}
 use Rattle.paper.specs.Moves.{Taken, joined}
 use Rattle.paper.specs.PointerRules.{pagesOf, Pointing, atStart, afterStarts, pointerMoves}
-use Rattle.pointer_right.specs.Ready.{Ready, ready}
-use Rattle.pointer_right.specs.Entries.{left-right, right-right}
-use Rattle.pointer_right.specs.Count.{starts-count}
+use Rattle.pointer_theory.specs.Ready.{Ready, ready}
+use Rattle.pointer_theory.specs.Entries.{left-right, right-right}
+use Rattle.pointer_theory.specs.Count.{starts-count}
 use Rattle.strips.specs.Running.{Ran, ran-length, ran-lent, joined-room, joined-ran}
 use Rattle.pointer.specs.Held.{Bests, bests-more}
 use Rattle.strips.specs.Words.{wordsOf, sums-size}

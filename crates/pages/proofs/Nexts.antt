@@ -11,8 +11,8 @@ use Rattle.paper.specs.declared.PageLimits.{PageLimits}
 use Rattle.paper.specs.Allowed.{pageLimitsHold, Passed}
 use Rattle.paper.specs.Index as Index
 use Rattle.paper.specs.Strips.{entries, bestEntry}
-use Rattle.paper.specs.Entries.{length-entries, getD-entries}
-use Rattle.pointer_right.specs.Turns.{best-last}
+use Rattle.paper_theory.specs.Entries.{length-entries, getD-entries}
+use Rattle.pointer_theory.specs.Turns.{best-last}
 use Rattle.pointer.specs.Held.{Bests}
 use Rattle.pages.specs.Asks.{bestsOf, nextsOf}
 

@@ -13,10 +13,10 @@ use Rattle.paper.specs.declared.Answer.the-variants.{Set, None}
 use Rattle.paper.specs.Paragraph.{end}
 use Rattle.paper.specs.Index as Index
 use Rattle.paper.specs.Index.{index}
-use Rattle.paper.specs.Right.{chosen-index}
+use Rattle.paper_theory.specs.Right.{chosen-index}
 use Rattle.paper.specs.Strips.{entries, bestEntry, IndexStrips, indexWritten, indexSet}
-use Rattle.paper.specs.Entries.{length-entries, getD-entries}
-use Rattle.pointer_right.specs.Numbers.{best-none}
+use Rattle.paper_theory.specs.Entries.{length-entries, getD-entries}
+use Rattle.pointer_theory.specs.Numbers.{best-none}
 use Rattle.strips.specs.Asks.{FollowAsk, Followed}
 use Rattle.strips.specs.Chain.{nextIn, chain, Leads, leads-rises, leads-on, chain-later, chosen-leads}
 use Rattle.pages.specs.Asks.{bestsOf, nextsOf, Filled, PageAsk, Paged}

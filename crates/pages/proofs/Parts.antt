@@ -10,7 +10,7 @@ use Rattle.paper.specs.Allowed.{pageLimitsHold}
 use Rattle.paper.specs.declared.PageLimits.{PageLimits}
 use Rattle.paper.specs.Index as Index
 use Rattle.paper.specs.Strips.{entries, sums, leftEntry, rightEntry}
-use Rattle.paper.specs.Entries.{length-entries}
+use Rattle.paper_theory.specs.Entries.{length-entries}
 use Rattle.strips.specs.Words.{wordsOf, words-of-sums, holds-sums, length-sums}
 use Rattle.pages.specs.Asks.{bestsOf, nextsOf, leftsOf, rightsOf, StartsAsk, AllStarted, FillAsk, Filled}
 

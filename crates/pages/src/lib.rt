@@ -1,12 +1,12 @@
 // The index engine of document 01: one pass over the starts. Workshop parts: they ask what their callers meet.
-use lines::NONE;
-use lines::wide;
 use paper::Answer;
 use paper::PageLimits;
 use pointer::at_start;
+use strips::NONE;
 use strips::clear;
 use strips::fill_sums;
 use strips::follow;
+use strips::wide;
 ghost use Rattle.strips.specs.Words.{wordsOf};
 ghost use Rattle.pages.specs.Asks.{StartsAsk, AllStarted, FillAsk, Filled, PageAsk, Paged};
 

@@ -7,9 +7,5 @@ pub mod Moves
 pub mod QueueRules
 pub mod PointerRules
 pub mod Strips
-pub mod Entries
-pub mod Scale
-pub mod Right
 pub mod Marked
 pub mod Edges
-pub mod Bound

@@ -7,7 +7,7 @@ use lib.Dec.{leb, eqb}
 use lib.ListN.{length, take, drop}
 use Rattle.laws.specs.Number.{if}
 use Rattle.laws.specs.Cost.{Cost}
-use Rattle.laws.specs.Search.{smallest}
+use Rattle.laws.specs.Search.{Tie, smallest, largest}
 use Rattle.laws.specs.Setting.{Problem}
 use Rattle.laws.specs.Square.{sqd}
 use Rattle.laws.specs.Table as Table
@@ -61,6 +61,10 @@ best l ws i = Table.best (paragraph l ws) i
 -- (Chosen: Next, which this is by next-is)
 unfoldable pub chosenNext : Limits → List ℕ → ℕ → ℕ
 chosenNext l ws i = if (leb (line ws i (end ws)) (l .lopt)) (end ws) (next (paragraph l ws) smallest i)
+
+-- The same as a tie rule: n+1 is the largest of those that give the best where Line(i, n+1) ≤ lopt.
+abbrev pub tie : Limits → List ℕ → ℕ → Tie
+tie l ws i = if (leb (line ws i (end ws)) (l .lopt)) largest smallest
 
 -- "The breaks follow the chosen nexts from 1."
 unfoldable pub breaks : Limits → List ℕ → List ℕ

@@ -12,8 +12,8 @@ use Rattle.paper.specs.declared.Kind.the-variants.{Link}
 use Rattle.paper.specs.Index as Index
 use Rattle.paper.specs.Moves.{Taken, code, move, moved}
 use Rattle.paper.specs.PointerRules.{pagesOf, entryAt, Linked, links, linked}
-use Rattle.pointer_right.specs.Numbers.{best-larger, best-not-larger}
-use Rattle.pointer_right.specs.Turns.{links-early, links-enough, links-more, links-stop}
+use Rattle.pointer_theory.specs.Numbers.{best-larger, best-not-larger}
+use Rattle.pointer_theory.specs.Turns.{links-early, links-enough, links-more, links-stop}
 use Rattle.strips.specs.Running.{Running, running-first, running-same, running-more, running-place, running-done, running-length}
 use Rattle.pointer.specs.Held.{Bests}
 use Rattle.pointer.specs.Asks.{LinksAsk, Joined, Joins}

@@ -10,8 +10,8 @@ use Rattle.paper.specs.declared.Kind.the-variants.{Step, Jump}
 use Rattle.paper.specs.Index.{gap}
 use Rattle.paper.specs.Moves.{Taken, code, move, moved, still}
 use Rattle.paper.specs.PointerRules.{pagesOf, entryAt, steps, jumps}
-use Rattle.pointer_right.specs.Turns.{steps-more, steps-stop, jumps-more, jumps-stop}
-use Rattle.pointer_right.specs.Ready.{step-above}
+use Rattle.pointer_theory.specs.Turns.{steps-more, steps-stop, jumps-more, jumps-stop}
+use Rattle.pointer_theory.specs.Ready.{step-above}
 use Rattle.pointer.specs.Asks.{JumpsAsk}
 use Rattle.strips.specs.Running.{Running, Ran, running-first, running-same, running-more, running-place, running-done}
 

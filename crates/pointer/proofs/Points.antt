@@ -7,8 +7,8 @@ use lib.ListN.{length}
 use Rattle.paper.specs.declared.PageLimits.{PageLimits}
 use Rattle.paper.specs.Moves.{Taken}
 use Rattle.paper.specs.PointerRules.{pagesOf, steps, jumps, pointed}
-use Rattle.pointer_right.specs.Turns.{steps-by}
-use Rattle.pointer_right.specs.Ready.{step-above}
+use Rattle.pointer_theory.specs.Turns.{steps-by}
+use Rattle.pointer_theory.specs.Ready.{step-above}
 use Rattle.strips.specs.Running.{Ran, joined-first, joined-room, joined-ran}
 use Rattle.pointer.specs.Asks.{pagesIn, StepsAsk, JumpsAsk}
 

@@ -4,7 +4,7 @@ use mathlib.Core.Path.{_≡_, ap, _∙_}
 use mathlib.Core.List.{List}
 use native.Mathlib.Omega.{arith}
 use lib.ListN.{length, getD}
-use Rattle.paper.specs.Scale.{upTo, upTo-le, gap-is}
+use Rattle.paper_theory.specs.Scale.{upTo, upTo-le, gap-is}
 use Rattle.paper.specs.Index.{gap}
 use Rattle.paper.specs.Strips.{sums}
 use Rattle.strips.specs.Words.{sums-size, getD-sums}

@@ -11,14 +11,14 @@ use Rattle.laws.specs.Cost.{Cost, none, some, has?, before}
 use Rattle.laws.specs.Chosen.{next}
 use Rattle.paper.specs.declared.PageLimits.{PageLimits}
 use Rattle.paper.specs.Allowed.{pageLimitsHold, Passed}
-use Rattle.paper.specs.Bound.{index-bound}
-use Rattle.paper.specs.Scale.{upTo, upTo-suc}
+use Rattle.paper_theory.specs.Bound.{index-bound}
+use Rattle.paper_theory.specs.Scale.{upTo, upTo-suc}
 use Rattle.paper.specs.Index as Index
 use Rattle.paper.specs.Index.{gap, item}
 use Rattle.paper.specs.PointerRules.{pagesOf, chooser}
 use Rattle.paper.specs.Strips.{sums, bestEntry}
-use Rattle.pointer_right.specs.Turns.{true-not-false}
-use Rattle.pointer_right.specs.Choice.{Choosing, chooser-is, chooser-near}
+use Rattle.pointer_theory.specs.Turns.{true-not-false}
+use Rattle.pointer_theory.specs.Choice.{Choosing, chooser-is, chooser-near}
 use Rattle.pointer.specs.Asks.{Settled}
 use Rattle.strips.specs.Words.{sums-size}
 use Rattle.pointer.proofs.Scale.{sum-at}

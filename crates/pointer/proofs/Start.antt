@@ -7,8 +7,8 @@ use lib.ListN.{length, length-append}
 use Rattle.paper.specs.declared.PageLimits.{PageLimits}
 use Rattle.paper.specs.Moves.{Taken}
 use Rattle.paper.specs.PointerRules.{pagesOf, links, Pointing, pointed, linked, atStart}
-use Rattle.pointer_right.specs.Ready.{ready-falls, ready-rises, ready-pointed, Pointed}
-use Rattle.pointer_right.specs.Choice.{Choosing, ready-choosing}
+use Rattle.pointer_theory.specs.Ready.{ready-falls, ready-rises, ready-pointed, Pointed}
+use Rattle.pointer_theory.specs.Choice.{Choosing, ready-choosing}
 use Rattle.strips.specs.Running.{Ran, joined-first, joined-room, joined-ran}
 use Rattle.pointer.specs.Held.{Bests, bests-more}
 use Rattle.strips.specs.Words.{wordsOf, sums-size}

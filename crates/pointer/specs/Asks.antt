@@ -10,8 +10,8 @@ use Rattle.paper.specs.Index as Index
 use Rattle.paper.specs.Moves.{Taken}
 use Rattle.paper.specs.PointerRules.{Pages, pagesOf, entryAt, links, Pointing, linked, atStart}
 use Rattle.paper.specs.Strips.{sums, bestEntry}
-use Rattle.pointer_right.specs.Ready.{Ready}
-use Rattle.pointer_right.specs.Choice.{Choosing}
+use Rattle.pointer_theory.specs.Ready.{Ready}
+use Rattle.pointer_theory.specs.Choice.{Choosing}
 use Rattle.strips.specs.Running.{Ran}
 use Rattle.pointer.specs.Held.{Bests}
 use Rattle.strips.specs.Words.{wordsOf, Holds}

@@ -1,12 +1,12 @@
 // The pointer rules of document 01, a start at a time, which has taken `count` moves. Workshop parts: they ask what their callers meet.
-use lines::NONE;
-use lines::long;
-use lines::wide;
 use paper::Kind;
 use paper::Move;
 use paper::PageLimits;
+use strips::NONE;
 use strips::Reached;
+use strips::long;
 use strips::put;
+use strips::wide;
 ghost use mathlib.Core.Path.{_≡_};
 ghost use lib.ListN.{length};
 ghost use Rattle.paper.specs.Index.{gap as isGap, item};

@@ -12,8 +12,9 @@ use Rattle.paper.specs.declared.Limits.{Limits}
 use Rattle.paper.specs.declared.Kind.the-variants.{Pass}
 use Rattle.paper.specs.Moves.{move, moved, still}
 use Rattle.paper.specs.QueueRules.{add, consider}
-use Rattle.queue_right.specs.Turns.{consider-long, consider-none, consider-add}
-use Rattle.lines.specs.Held.{span, costOf, textIn, cost-number}
+use Rattle.queue_theory.specs.Turns.{consider-long, consider-none, consider-add}
+use Rattle.lines.specs.Held.{span, textIn}
+use Rattle.strips.specs.Costs.{costOf, cost-number}
 use Rattle.queue.specs.Asks.{Member, AddAsks, ConsiderAsks, Passes, Added}
 
 -- a candidate that is considered is above the start

@@ -11,10 +11,11 @@ use Rattle.laws.specs.Members.{Every, every-map, Falls}
 use Rattle.paper.specs.declared.Limits.{Limits}
 use Rattle.paper.specs.Moves.{Taken, joined}
 use Rattle.paper.specs.QueueRules.{Standing, consider, candidates}
-use Rattle.queue_right.specs.Turns.{consider-gives, candidates-more, candidates-stop}
-use Rattle.queue_right.specs.Ready.{add-every, add-falls}
-use Rattle.queue_right.specs.Count.{consider-count}
-use Rattle.lines.specs.Held.{span, costOf, textIn}
+use Rattle.queue_theory.specs.Turns.{consider-gives, candidates-more, candidates-stop}
+use Rattle.queue_theory.specs.Ready.{add-every, add-falls}
+use Rattle.queue_theory.specs.Count.{consider-count}
+use Rattle.lines.specs.Held.{span, textIn}
+use Rattle.strips.specs.Costs.{costOf}
 use Rattle.strips.specs.Running.{Running, running-first, running-same, running-rule, running-done, running-length}
 use Rattle.queue.specs.Asks.{Member, Queued, ConsiderAsks, CandidatesAsks, Added, Considered}
 use Rattle.queue.proofs.Considering.{above, considering-new}

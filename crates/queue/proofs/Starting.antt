@@ -11,9 +11,9 @@ use Rattle.laws.specs.Members.{Every, every-map, every-map2, Falls, slice-every
 use Rattle.paper.specs.declared.Limits.{Limits}
 use Rattle.paper.specs.Moves.{Taken, still, joined}
 use Rattle.paper.specs.QueueRules.{Text, Standing, dropLong, candidates, dropWorse, settled, atStart}
-use Rattle.queue_right.specs.Turns.{dropLong-more, dropLong-stop}
-use Rattle.queue_right.specs.Leaves.{dropLong-every, dropLong-pairs, dropWorse-every, dropWorse-pairs}
-use Rattle.queue_right.specs.Count.{candidates-count}
+use Rattle.queue_theory.specs.Turns.{dropLong-more, dropLong-stop}
+use Rattle.queue_theory.specs.Leaves.{dropLong-every, dropLong-pairs, dropWorse-every, dropWorse-pairs}
+use Rattle.queue_theory.specs.Count.{candidates-count}
 use Rattle.lines.specs.Held.{span, textIn}
 use Rattle.lines.specs.Asks.{Rising}
 use Rattle.strips.specs.Running.{Running, running-first, running-same, running-rule, running-done, running-length, joined-assoc}

@@ -13,7 +13,7 @@ use Rattle.paper.specs.declared.Limits.{Limits}
 use Rattle.paper.specs.declared.Kind.the-variants.{Drop, Pop}
 use Rattle.paper.specs.Moves.{code, move}
 use Rattle.paper.specs.QueueRules.{F, bridged, dropLong, popWorse, popBridged, dropWorse}
-use Rattle.queue_right.specs.Turns.{dropLong-more, dropLong-stop, popWorse-more, popWorse-stop, popBridged-more, popBridged-stop, dropWorse-more, dropWorse-stop}
+use Rattle.queue_theory.specs.Turns.{dropLong-more, dropLong-stop, popWorse-more, popWorse-stop, popBridged-more, popBridged-stop, dropWorse-more, dropWorse-stop}
 use Rattle.lines.specs.Held.{span, textIn}
 use Rattle.queue.specs.Asks.{Places, Dropped, Popped}
 use Rattle.queue.proofs.Ends.{part-front, part-rear, part-none, Fronted, fronted-more, fronted-done, Reared, reared-more, reared-done}

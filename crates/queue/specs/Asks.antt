@@ -8,7 +8,7 @@ use lib.ListN.{length, getD}
 use lib.Seq.{slice}
 use Rattle.laws.specs.Members.{Every, Falls}
 use Rattle.paper.specs.declared.Limits.{Limits}
-use Rattle.paper.specs.Allowed.{Ranges}
+use Rattle.paper_theory.specs.Ranges.{Ranges}
 use Rattle.paper.specs.declared.Kind.the-variants.{Pass}
 use Rattle.paper.specs.Moves.{Taken, move, moved, still}
 use Rattle.paper.specs.QueueRules.{Standing, candidates}

@@ -1,15 +1,15 @@
 // The queue rules of document 01, a start at a time. The queue stands in its strip from `front` up to `end`, and the start has taken
 // `count` moves. Workshop parts: they ask what their callers meet.
-use lines::NONE;
 use lines::bridged;
 use lines::line;
 use lines::through;
-use lines::wide;
 use paper::Kind;
 use paper::Limits;
 use paper::Move;
+use strips::NONE;
 use strips::Reached;
 use strips::put;
+use strips::wide;
 ghost use lib.ListN.{length};
 ghost use lib.Seq.{slice};
 ghost use Prim.Native.Nat.{ℕ, _≤_, _<_};

@@ -15,11 +15,12 @@ use Rattle.paper.specs.declared.Answer.{Answer}
 use Rattle.paper.specs.declared.Answer.the-variants.{Refused}
 use Rattle.paper.specs.declared.Penalty.{Penalty}
 use Rattle.paper.specs.declared.Penalty.the-variants.{Of, Refused as PenaltyRefused}
-use Rattle.paper.specs.Allowed.{Ranges, ranges, limitsHold, pageLimitsHold}
+use Rattle.paper.specs.Allowed.{limitsHold, pageLimitsHold}
+use Rattle.paper_theory.specs.Ranges.{Ranges, ranges}
 use Rattle.paper.specs.Paragraph.{best, penalty}
 use Rattle.paper.specs.Told.{told, toldPenalty, checked, penaltyAlone}
 use Rattle.paper.specs.Strips.{ParagraphStrips, paragraphHas, paragraphNeeds, paragraphChecked, paragraphSet, paragraphOutcome, IndexStrips, IndexOutcome, indexHas, indexNeeds, indexChecked, indexOutcome}
-use Rattle.rules.specs.Accepted.{accepted, room-here}
+use Rattle.refusals.specs.Accepted.{accepted, room-here}
 use Rattle.breaks.specs.Asks.{SetAsks, Sets}
 use Rattle.pages.specs.Asks.{PageAsk, Paged}
 use Rattle.setter.specs.Promise.{ParagraphPromise, IndexPromise, PenaltyPromise}

@@ -3,8 +3,8 @@ use pages::page;
 use paper::Answer;
 use paper::Checked;
 use paper::PageLimits;
-use rules::check;
-use rules::page_limits_hold;
+use refusals::check;
+use refusals::page_limits_hold;
 ghost use Rattle.paper.specs.Strips.{indexStrips, indexOutcome};
 ghost use Rattle.setter.specs.Promise.{IndexPromise};
 

@@ -10,9 +10,9 @@ use lib.Seq.{drop-set-lt}
 use Rattle.laws.specs.Number.{all}
 use Rattle.laws.specs.Strip.{over, over-set}
 use Rattle.paper.specs.Allowed.{lengthHolds}
-use Rattle.paper.specs.Scale.{upTo, upTo-zero, upTo-suc, upTo-bound}
+use Rattle.paper_theory.specs.Scale.{upTo, upTo-zero, upTo-suc, upTo-bound}
 use Rattle.paper.specs.Strips.{entries, sums}
-use Rattle.paper.specs.Entries.{length-entries, entries-more}
+use Rattle.paper_theory.specs.Entries.{length-entries, entries-more}
 
 -- k lengths are summed
 pub record Filling (ws s₀ s : List ℕ) (k total : ℕ) : Type 0 where

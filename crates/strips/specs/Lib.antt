@@ -1,3 +1,4 @@
+pub mod Costs
 pub mod Asks
 pub mod Chain
 pub mod Running

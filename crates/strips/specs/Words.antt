@@ -7,9 +7,9 @@ use native.Mathlib.Omega.{arith}
 use lib.ListN.{length, getD}
 use lib.Seq.{ext-getD}
 use Rattle.paper.specs.Allowed.{Passed}
-use Rattle.paper.specs.Scale.{upTo, upTo-suc, upTo-le}
+use Rattle.paper_theory.specs.Scale.{upTo, upTo-suc, upTo-le}
 use Rattle.paper.specs.Strips.{entries, sums}
-use Rattle.paper.specs.Entries.{length-entries, getD-entries}
+use Rattle.paper_theory.specs.Entries.{length-entries, getD-entries}
 
 -- the lengths whose sums the strip holds: the differences of neighbours
 unfoldable pub wordsOf : List ℕ → List ℕ

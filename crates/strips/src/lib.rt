@@ -10,6 +10,23 @@ ghost use Rattle.paper.specs.Strips.{sums as sumsOf};
 ghost use Rattle.strips.specs.Asks.{SumsAsk, MoveAsk, FollowAsk, Followed};
 ghost use Rattle.strips.specs.Chain.{chain};
 
+// "No setting" in the best strip: above every number.
+pub const NONE: u64 = 18446744073709551615;
+
+// An entry as an index.
+pub fn wide(x: u32) -> usize
+    ensures { λ r. ⌜ r ≡ x ⌝ }
+{
+    x as usize
+}
+
+// An entry as a number that sums and products fit.
+pub fn long(x: u32) -> u64
+    ensures { λ r. ⌜ r ≡ x ⌝ }
+{
+    x as u64
+}
+
 // Entry k of sums becomes the total of the first k lengths, for k from 0 to n.
 pub fn fill_sums(lengths: &[u32], sums: &mut [u32])
     requires { ⌜ SumsAsk (now lengths) (now sums) ⌝ }

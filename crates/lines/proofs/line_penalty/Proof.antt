@@ -1,7 +1,7 @@
 -- `lines::line_penalty` meets its contract. Assumes nothing.
 use Prim.Native.Nat.{ℕ, _^_, _<_}
 use mathlib.Core.Path.{subst, sym}
-use Rattle.paper.specs.Bound.{penalty-bound}
+use Rattle.paper_theory.specs.Bound.{penalty-bound}
 use borrow.Author.Needs.{needs}
 use Rattle.lines.proofs.line_penalty.Statement.{statement}
 use Rattle.lines.proofs.line_penalty.Tie as tie

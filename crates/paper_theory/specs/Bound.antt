@@ -1,0 +1,88 @@
+-- "With these the penalty of a line inside the measure stays below 2^28 and a paragraph's below 2^40."
+use Prim.Native.Nat.{ℕ, zero, suc, _-_, _*_, _^_, _≤_, _<_}
+use mathlib.Core.Path.{_≡_, refl, subst}
+use mathlib.Core.Bool.{Bool, true, false, _&&_}
+use mathlib.Core.Logic.{⊎-elim}
+use mathlib.Core.List.{List, _∷_}
+use native.Mathlib.Nat.{mul-le-mul, mul-le-mul-right}
+use native.Mathlib.Omega.{arith}
+use lib.Dec.{T, leb, eqb, leb→le}
+use lib.ListN.{length, getD, List·getD-eq-default}
+use Rattle.laws.specs.Number.{if, both, all, split}
+use Rattle.laws.specs.Cost.{some}
+use Rattle.laws.specs.Square.{sqd}
+use Rattle.laws.specs.Setting.{Best, best-bound}
+use Rattle.paper.specs.declared.Limits.{Limits}
+use Rattle.paper.specs.declared.PageLimits.{PageLimits}
+use Rattle.paper.specs.Paragraph as Paragraph
+use Rattle.paper.specs.Paragraph.{line, end, admissible, penalty, charge, paragraph}
+use Rattle.paper.specs.Index as Index
+use Rattle.paper.specs.Index.{item, index}
+use Rattle.paper.specs.Allowed.{lengthHolds}
+use Rattle.paper_theory.specs.Ranges.{Ranges}
+use Rattle.paper_theory.specs.Scale.{length-holds}
+use Rattle.paper_theory.specs.Right.{best-paragraph, best-index}
+
+-- a square of at most 4,095, fifteen times
+square-bound : (a d : ℕ) → a ≤ 15 → d ≤ 4095 → a * (d * d) < 2 ^ 28
+square-bound a d ha hd =
+    let s : d * d ≤ 4095 * 4095 = mul-le-mul hd hd in
+    let t : a * (d * d) ≤ 15 * (4095 * 4095) = mul-le-mul ha s in
+    omega (arith, t)
+
+-- the penalty of a line of at most lmax
+pub penalty-bound : (l : Limits) → Ranges l → (x : ℕ) → x ≤ l .lmax → penalty l x < 2 ^ 28
+unfolding penalty sqd
+penalty-bound l r x h =
+    ⊎-elim
+    (λ g. let e : x - l .lopt ≡ 0 = omega arith in
+    rw e (omega (arith, square-bound (l .a) (l .lopt - x) (r .a-high) (omega (arith, r .lmax-high, r .lopt-high, r .lmin-low)))))
+    (λ g. let e : l .lopt - x ≡ 0 = omega arith in
+    rw e (omega (arith, square-bound (l .a) (x - l .lopt) (r .a-high) (omega (arith, r .lmax-high, r .lopt-low, r .lmin-low)))))
+    (split x (l .lopt))
+
+-- every admissible line is at most lmax
+pub admissible-lmax : (l : Limits) (ws : List ℕ) (i j : ℕ) → T (admissible l ws i j) → line ws i j ≤ l .lmax
+unfolding admissible
+admissible-lmax l ws i j t = go (eqb j (end ws)) t
+  where
+    go : (b : Bool) → T (if b (leb (line ws i j) (l .lmax)) (leb (l .lmin) (line ws i j) && leb (line ws i j) (l .lmax))) → line ws i j ≤ l .lmax
+    go true t = leb→le (line ws i j) (l .lmax) t
+    go false t = leb→le (line ws i j) (l .lmax) (both (leb (l .lmin) (line ws i j)) (leb (line ws i j) (l .lmax)) t .1)
+
+-- and costs less than 2^28
+pub charge-bound : (l : Limits) → Ranges l → (ws : List ℕ) (i j : ℕ) → line ws i j ≤ l .lmax → charge l ws i j < 2 ^ 28
+unfolding charge
+charge-bound l r ws i j h = go (eqb j (end ws) && leb (line ws i j) (l .lopt))
+  where
+    go : (b : Bool) → if b 0 (penalty l (line ws i j)) < 2 ^ 28
+    go true = omega arith
+    go false = penalty-bound l r (line ws i j) h
+
+pub paragraph-bound : (l : Limits) → Ranges l → (ws : List ℕ) → length ws ≤ 4096 → (i v : ℕ) → 1 ≤ i → i ≤ end ws →
+    Paragraph.best l ws i ≡ some v → v < 2 ^ 40
+unfolding paragraph
+paragraph-bound l r ws few i v low high e =
+    let b : Best (paragraph l ws) i (some v) = subst (Best (paragraph l ws) i) e (best-paragraph l ws i high) in
+    let t : v ≤ (end ws - i) * (2 ^ 28 - 1) = best-bound (paragraph l ws) (2 ^ 28 - 1) (λ j k ch. omega (arith, charge-bound l r ws j k (admissible-lmax l ws j k (ch .admissible)))) (λ c n. omega arith) refl i v high b in
+    let m : end ws - i ≤ 4096 = omega arith in
+    omega (arith, mul-le-mul-right (2 ^ 28 - 1) m)
+
+item-bound : (ws : List ℕ) → T (all lengthHolds ws) → (i : ℕ) → item ws i ≤ 4095
+unfolding item
+item-bound ws t i = go i
+  where
+    go : (i : ℕ) → getD (0 ∷ ws) i 0 ≤ 4095
+    go zero = omega arith
+    go (suc k) =
+        ⊎-elim
+        (λ h. omega (arith, List·getD-eq-default ws 0 {n = k} h))
+        (λ h. omega (arith, length-holds ws t k h .1))
+        (split (length ws) k)
+
+pub index-bound : (l : PageLimits) (ws : List ℕ) → T (all lengthHolds ws) → length ws ≤ 4096 → (i v : ℕ) → i ≤ end ws → Index.best l ws i ≡ some v → v < 2 ^ 25
+unfolding index
+index-bound l ws allowed few i v high e =
+    let b : Best (index l ws) i (some v) = subst (Best (index l ws) i) e (best-index l ws i high) in
+    let t : v ≤ (end ws - i) * 4095 = best-bound (index l ws) 4095 (λ j k ch. item-bound ws allowed j) (λ c n. omega arith) refl i v high b in
+    omega arith

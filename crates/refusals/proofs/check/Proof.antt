@@ -1,0 +1,54 @@
+-- `rules::check` meets its contract. Assumes nothing.
+use mathlib.Core.Path.{sym, _∙_}
+use borrow.Author.Tests.{lt-ltb, le-ltb, eq-eqb, ne-eqb, not-true, not-false}
+use Rattle.paper.specs.Told.{checked}
+use borrow.Author.Needs.{needs}
+use Rattle.refusals.proofs.check.Statement.{statement}
+use Rattle.refusals.proofs.check.Tie as tie
+
+returns : tie.Need-returns
+unfolding checked
+returns c = simp (eq-eqb _ _ (c .if1 .taken))
+
+returns-2 : tie.Need-returns-2
+unfolding checked
+returns-2 c = simp (ne-eqb _ _ (c .before .if1 .left), lt-ltb _ _ (c .if2 .taken))
+
+returns-3 : tie.Need-returns-3
+unfolding checked
+returns-3 c = simp (ne-eqb _ _ (c .before .before .if1 .left), le-ltb _ _ (c .before .if2 .left), not-true (c .before .before .before .before .before .before .args .hold) (c .if3 .taken))
+
+all-hold-requires : tie.Need-all-hold-requires
+all-hold-requires c κs = search needs
+
+first-bad-requires : tie.Need-first-bad-requires
+first-bad-requires c κs = search needs
+
+returns-4 : tie.Need-returns-4
+unfolding checked
+returns-4 c = simp (ne-eqb _ _ (c .before .before .before .before .before .if1 .left), le-ltb _ _ (c .before .before .before .before .if2 .left), not-false (c .before .before .before .before .before .before .before .before .before .args .hold) (c .before .before .before .if3 .left), sym (c .before .before .all-hold .ensures) ∙ not-true (c .before .before .all-hold .result) (c .before .if4 .taken), c .first-bad .ensures)
+
+first-short-requires : tie.Need-first-short-requires
+first-short-requires c κs = search needs
+
+returns-5 : tie.Need-returns-5
+unfolding checked
+returns-5 c = simp (ne-eqb _ _ (c .before .before .before .before .before .before .if1 .left), le-ltb _ _ (c .before .before .before .before .before .if2 .left), not-false (c .before .before .before .before .before .before .before .before .before .before .args .hold) (c .before .before .before .before .if3 .left), sym (c .before .before .before .all-hold .ensures) ∙ not-false (c .before .before .before .all-hold .result) (c .before .before .if4 .left), sym (c .before .first-short .ensures), ne-eqb _ _ (c .if5 .taken))
+
+returns-6 : tie.Need-returns-6
+unfolding checked
+returns-6 c = simp (ne-eqb _ _ (c .before .before .before .before .before .before .if1 .left), le-ltb _ _ (c .before .before .before .before .before .if2 .left), not-false (c .before .before .before .before .before .before .before .before .before .before .args .hold) (c .before .before .before .before .if3 .left), sym (c .before .before .before .all-hold .ensures) ∙ not-false (c .before .before .before .all-hold .result) (c .before .before .if4 .left), eq-eqb _ _ (sym (c .before .first-short .ensures) ∙ c .if5 .left))
+
+pub check-spec : {M : Type 1} → statement M
+check-spec =
+    tie.close
+    (tie.spec
+    returns
+    returns-2
+    returns-3
+    all-hold-requires
+    first-bad-requires
+    returns-4
+    first-short-requires
+    returns-5
+    returns-6)

@@ -1,0 +1,64 @@
+-- `rules::first_bad` meets its contract. Assumes nothing.
+use borrow.Author.Needs.{needs}
+use borrow.Author.Tests.{not-true, not-false}
+use Prim.Native.Nat.{_≤_, _+_, _-_}
+use mathlib.Core.Path.{_≡_, refl, sym, _∙_}
+use lib.ListN.{length, drop}
+use Rattle.paper.specs.Allowed.{lengthHolds}
+use Rattle.paper.specs.Told.{firstFailing}
+use Rattle.refusals.proofs.First.{failing-here, failing-later, failing-never}
+use Rattle.refusals.proofs.first_bad.Statement.{statement}
+use Rattle.refusals.proofs.first_bad.Tie as tie
+
+abbrev Inv-loop : tie.InvT-loop
+Inv-loop lengths k₀ k = (k ≤ length lengths) × (firstFailing lengthHolds (k + 1) (drop k lengths) ≡ firstFailing lengthHolds 1 lengths)
+
+abbrev μ-loop : tie.MeasureT-loop
+μ-loop lengths k₀ k = length lengths - k
+
+loop-holds : tie.Need-loop-holds Inv-loop μ-loop
+loop-holds c = (search needs, refl)
+
+mul-length-holds : tie.Need-mul-length-holds Inv-loop μ-loop
+mul-length-holds c = search needs
+
+shared-slice-read-length-holds : tie.Need-shared-slice-read-length-holds Inv-loop μ-loop
+shared-slice-read-length-holds c = search needs
+
+length-holds-requires : tie.Need-length-holds-requires Inv-loop μ-loop
+length-holds-requires c κs = search needs
+
+add-result : tie.Need-add-result Inv-loop μ-loop
+add-result c = search needs
+
+returns : tie.Need-returns Inv-loop μ-loop
+returns c = sym (failing-here _ _ lengthHolds (c .before .before .before .loop-test .taken) (sym (c .before .length-holds .ensures) ∙ not-true (c .before .length-holds .result) (c .if1 .taken))) ∙ c .before .before .before .before .loop .inv .1
+
+add-k : tie.Need-add-k Inv-loop μ-loop
+add-k c = search needs
+
+loop-less : tie.Need-loop-less Inv-loop μ-loop
+loop-less c = search needs
+
+loop-again : tie.Need-loop-again Inv-loop μ-loop
+loop-again c = (search needs, sym (failing-later _ _ lengthHolds (c .before .before .before .loop-test .taken) (sym (c .before .length-holds .ensures) ∙ not-false (c .before .length-holds .result) (c .if1 .left))) ∙ c .before .before .before .before .loop .inv .1)
+
+returns-2 : tie.Need-returns-2 Inv-loop μ-loop
+returns-2 c = sym (failing-never _ _ lengthHolds (c .loop-test .left)) ∙ c .before .loop .inv .1
+
+pub first-bad-spec : {M : Type 1} → statement M
+first-bad-spec =
+    tie.close
+    (tie.spec
+    Inv-loop
+    μ-loop
+    loop-holds
+    mul-length-holds
+    shared-slice-read-length-holds
+    length-holds-requires
+    add-result
+    returns
+    add-k
+    loop-less
+    loop-again
+    returns-2)

@@ -1,0 +1,148 @@
+// The ranges of the numbers allowed, refusals 1 to 5 in their order, and the number and place that each refusal tells.
+use paper::Checked;
+use paper::Limits;
+use paper::PageLimits;
+use paper::Refusal;
+ghost use mathlib.Core.Path.{_≡_};
+ghost use Prim.Native.Nat.{_≤_};
+ghost use lib.Dec.{eqb};
+ghost use lib.ListN.{length};
+ghost use Rattle.paper.specs.Allowed.{lengthHolds, limitsHold, pageLimitsHold};
+ghost use Rattle.paper.specs.Told.{toldRefusal, firstFailing, firstShort, checked};
+ghost use Rattle.refusals.specs.Tells.{Tells};
+
+pub fn limits_hold(l: Limits) -> bool
+    ensures { λ r. ⌜ r ≡ limitsHold l ⌝ }
+{
+    if l.lmin < 1 {
+        return false;
+    }
+    if l.lopt < l.lmin {
+        return false;
+    }
+    if l.lmax < l.lopt {
+        return false;
+    }
+    if 4095 < l.lmax {
+        return false;
+    }
+    if l.lmax <= l.lmin {
+        return false;
+    }
+    if l.a < 1 {
+        return false;
+    }
+    l.a <= 15
+}
+
+pub fn page_limits_hold(l: PageLimits) -> bool
+    ensures { λ r. ⌜ r ≡ pageLimitsHold l ⌝ }
+{
+    if l.lmax <= l.lmin {
+        return false;
+    }
+    l.lmax <= 65535
+}
+
+fn length_holds(w: u32) -> bool
+    ensures { λ r. ⌜ r ≡ lengthHolds w ⌝ }
+{
+    if w < 1 {
+        return false;
+    }
+    w <= 4095
+}
+
+// Whether every length is allowed. No early exit, so that the compiler can take several words at a time.
+fn all_hold(lengths: &[u32]) -> bool
+    ensures { λ r. ⌜ r ≡ eqb (firstFailing lengthHolds 1 (now (lengths .entry))) 0 ⌝ }
+{
+    let mut hold = true;
+    let mut k = 0;
+    while k < lengths.len() {
+        if !length_holds(lengths[k]) {
+            hold = false;
+        }
+        k += 1;
+    }
+    hold
+}
+
+// The first word whose length is 0 or above 4,095, counted from 1; 0 where there is none.
+fn first_bad(lengths: &[u32]) -> usize
+    ensures { λ r. ⌜ r ≡ firstFailing lengthHolds 1 (now (lengths .entry)) ⌝ }
+{
+    let mut k = 0;
+    while k < lengths.len() {
+        if !length_holds(lengths[k]) {
+            return k + 1;
+        }
+        k += 1;
+    }
+    0
+}
+
+// The first strip that has fewer entries than it needs, counted from 1; 0 where there is none.
+fn first_short(has: &[usize], needs: &[usize]) -> usize
+    requires { ⌜ length (now has) ≤ length (now needs) ⌝ }
+    ensures { λ r. ⌜ r ≡ firstShort 1 (now (has .entry)) (now (needs .entry)) ⌝ }
+{
+    let mut k = 0;
+    while k < has.len() {
+        if has[k] < needs[k] {
+            return k + 1;
+        }
+        k += 1;
+    }
+    0
+}
+
+// The first of refusals 1 to 5 that applies; `hold` says whether the limits do.
+pub fn check(hold: bool, lengths: &[u32], has: &[usize], needs: &[usize]) -> Checked
+    requires { ⌜ length (now has) ≤ length (now needs) ⌝ }
+    ensures { λ r. ⌜ r ≡ checked hold (now (lengths .entry)) (now (has .entry)) (now (needs .entry)) ⌝ }
+{
+    let n = lengths.len();
+    if n == 0 {
+        return Checked::Refuse(Refusal::Empty);
+    }
+    if 4096 < n {
+        return Checked::Refuse(Refusal::Many);
+    }
+    if !hold {
+        return Checked::Refuse(Refusal::Limits);
+    }
+    if !all_hold(lengths) {
+        return Checked::Refuse(Refusal::Length(first_bad(lengths)));
+    }
+    let strip = first_short(has, needs);
+    if strip != 0 {
+        return Checked::Refuse(Refusal::Room(strip));
+    }
+    Checked::Accept
+}
+
+// 01's number and place.
+pub struct Reason {
+    pub number: u32,
+    pub place: usize,
+}
+
+fn told(number: u32, place: usize) -> Reason
+    ensures { λ r. ⌜ Tells number place r ⌝ }
+{
+    Reason { number, place }
+}
+
+pub fn told_refusal(r: Refusal) -> Reason
+    ensures { λ t. ⌜ Tells (toldRefusal r .number) (toldRefusal r .place) t ⌝ }
+{
+    match r {
+        Refusal::Empty => told(1, 0),
+        Refusal::Many => told(2, 0),
+        Refusal::Limits => told(3, 0),
+        Refusal::Length(word) => told(4, word),
+        Refusal::Room(strip) => told(5, strip),
+        Refusal::Job(offset) => told(7, offset),
+    }
+}
