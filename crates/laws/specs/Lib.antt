@@ -8,6 +8,7 @@ pub mod Chosen
 pub mod Square
 pub mod Bridge
 pub mod Strip
+pub mod Outcome
 pub mod Members
 pub mod Queue
 pub mod Pointer

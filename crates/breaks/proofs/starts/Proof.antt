@@ -40,9 +40,6 @@ sub-at-start c = omega (arith, started-room _ _ _ (c .before .before .before .be
 part-at-start-start : tie.Need-part-at-start-start Inv-loop μ-loop
 part-at-start-start c = omega (arith, started-room _ _ _ (c .before .before .before .before .before .before .before .before .before .pre .holds) (roomy _ _ _ _ _ _ (c .before .before .before .before .before .before .before .before .before .pre)) _ _ _ _ _ _ (c .before .before .before .loop .inv), started-length _ _ _ (c .before .before .before .before .before .before .before .before .before .pre .holds) (roomy _ _ _ _ _ _ (c .before .before .before .before .before .before .before .before .before .pre)) _ _ _ _ _ _ (c .before .before .before .loop .inv))
 
-part-at-start-end : tie.Need-part-at-start-end Inv-loop μ-loop
-part-at-start-end c = search needs
-
 at-start-requires : tie.Need-at-start-requires Inv-loop μ-loop
 at-start-requires c κs = started-asks _ _ _ (c .before .before .before .before .before .before .before .before .before .before .pre .holds) (roomy _ _ _ _ _ _ (c .before .before .before .before .before .before .before .before .before .before .pre)) _ _ _ _ _ _ (c .before .before .before .before .loop .inv) (c .before .before .before .loop-test .taken)
 
@@ -93,7 +90,7 @@ starts-spec =
     mul-at-start
     sub-at-start
     part-at-start-start
-    part-at-start-end
+    (λ c. search needs)
     at-start-requires
     settle-requires
     add-t20

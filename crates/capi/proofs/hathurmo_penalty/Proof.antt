@@ -7,14 +7,8 @@ use borrow.Author.Needs.{needs}
 use Rattle.capi.proofs.hathurmo_penalty.Statement.{statement}
 use Rattle.capi.proofs.hathurmo_penalty.Tie as tie
 
-penalty-alone-requires : tie.Need-penalty-alone-requires
-penalty-alone-requires c κs = search needs
-
-tell-penalty-requires : tie.Need-tell-penalty-requires
-tell-penalty-requires c κs = search needs
-
 returns : tie.Need-returns
 returns c = subst (λ (p : Penalty). Tells (toldPenalty p) (c .tell-penalty .result)) (c .before .penalty-alone .ensures .answered) (c .tell-penalty .ensures)
 
 pub hathurmo-penalty-spec : {M : Type 1} → statement M
-hathurmo-penalty-spec = tie.close (tie.spec penalty-alone-requires tell-penalty-requires returns)
+hathurmo-penalty-spec = tie.close (tie.spec (λ c κs. search needs) (λ c κs. search needs) returns)

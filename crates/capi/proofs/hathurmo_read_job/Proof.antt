@@ -7,17 +7,8 @@ use borrow.Author.Needs.{needs}
 use Rattle.capi.proofs.hathurmo_read_job.Statement.{statement}
 use Rattle.capi.proofs.hathurmo_read_job.Tie as tie
 
-read-requires : tie.Need-read-requires
-read-requires c κs = search needs
-
-tell-job-requires : tie.Need-tell-job-requires
-tell-job-requires c κs = search needs
-
-same-length : tie.Need-same-length
-same-length c = search needs
-
 returns : tie.Need-returns
 returns c = record { tells = subst (λ (x : Job). TellsJob (toldJob x) (c .tell-job .result)) (c .before .before .before .read .ensures .answered) (c .tell-job .ensures); lengths = c .before .before .before .read .ensures .left }
 
 pub hathurmo-read-job-spec : {M : Type 1} → statement M
-hathurmo-read-job-spec = tie.close (tie.spec read-requires tell-job-requires same-length returns)
+hathurmo-read-job-spec = tie.close (tie.spec (λ c κs. search needs) (λ c κs. search needs) (λ c. search needs) returns)

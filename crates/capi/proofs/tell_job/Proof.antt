@@ -5,18 +5,6 @@ use borrow.Author.Needs.{needs}
 use Rattle.capi.proofs.tell_job.Statement.{statement}
 use Rattle.capi.proofs.tell_job.Tie as tie
 
-enum-known-j : tie.Need-enum-known-j
-enum-known-j c = search needs
-
-tell-asked-requires : tie.Need-tell-asked-requires
-tell-asked-requires c κs = search needs
-
-enum-known-j-2 : tie.Need-enum-known-j-2
-enum-known-j-2 c = search needs
-
-tell-refusal-requires : tie.Need-tell-refusal-requires
-tell-refusal-requires c κs = search needs
-
 returns : tie.Need-returns
 unfolding toldJob
 returns c = rw (c .before .before .j .given .1) (c .tell-asked .ensures)
@@ -37,9 +25,9 @@ pub tell-job-spec : {M : Type 1} → statement M
 tell-job-spec =
     tie.close
     (tie.spec
-    enum-known-j
-    tell-asked-requires
-    enum-known-j-2
-    tell-refusal-requires
+    (λ c. search needs)
+    (λ c κs. search needs)
+    (λ c. search needs)
+    (λ c κs. search needs)
     returns
     returns-2)

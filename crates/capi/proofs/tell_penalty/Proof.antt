@@ -4,15 +4,6 @@ use borrow.Author.Needs.{needs}
 use Rattle.capi.proofs.tell_penalty.Statement.{statement}
 use Rattle.capi.proofs.tell_penalty.Tie as tie
 
-enum-known-p : tie.Need-enum-known-p
-enum-known-p c = search needs
-
-enum-known-p-2 : tie.Need-enum-known-p-2
-enum-known-p-2 c = search needs
-
-tell-refusal-requires : tie.Need-tell-refusal-requires
-tell-refusal-requires c κs = search needs
-
 returns : tie.Need-returns
 unfolding toldPenalty
 returns c = rw (c .before .p .given .1) (search needs)
@@ -23,4 +14,4 @@ returns-2 c = rw (c .before .before .p2 .given .1) (c .tell-refusal .ensures)
 
 pub tell-penalty-spec : {M : Type 1} → statement M
 tell-penalty-spec =
-    tie.close (tie.spec enum-known-p enum-known-p-2 tell-refusal-requires returns returns-2)
+    tie.close (tie.spec (λ c. search needs) (λ c. search needs) (λ c κs. search needs) returns returns-2)

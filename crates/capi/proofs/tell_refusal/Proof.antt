@@ -5,9 +5,6 @@ use borrow.Author.Needs.{needs}
 use Rattle.capi.proofs.tell_refusal.Statement.{statement}
 use Rattle.capi.proofs.tell_refusal.Tie as tie
 
-told-refusal-requires : tie.Need-told-refusal-requires
-told-refusal-requires c κs = search needs
-
 returns : tie.Need-returns
 returns c = rw (number-and-place _) (record { number = c .told-refusal .ensures .is-number; place = c .told-refusal .ensures .is-place; total = refl; lines = refl; moves = refl })
 
@@ -15,5 +12,5 @@ pub tell-refusal-spec : {M : Type 1} → statement M
 tell-refusal-spec =
     tie.close
     (tie.spec
-    told-refusal-requires
+    (λ c κs. search needs)
     returns)

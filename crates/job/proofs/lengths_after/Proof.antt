@@ -10,38 +10,11 @@ use Rattle.job.proofs.Answers.{refused, count-cut, count-whole}
 use Rattle.job.proofs.lengths_after.Statement.{statement}
 use Rattle.job.proofs.lengths_after.Tie as tie
 
-sub-section : tie.Need-sub-section
-sub-section c = search needs
-
-part-section-start : tie.Need-part-section-start
-part-section-start c = search needs
-
-part-section-end : tie.Need-part-section-end
-part-section-end c = search needs
-
-slice-aggregate-section : tie.Need-slice-aggregate-section
-slice-aggregate-section c = search needs
-
-section-requires : tie.Need-section-requires
-section-requires c κs = search needs
-
 returns : tie.Need-returns
 unfolding lengthsAfter
 returns c =
     let st = c .before .before .before .before .before .before .before in
     refused _ _ _ _ (count-cut _ _ (lent-is (now (st .args .job)) (st .args .at)) (c .before .before .section .ensures) (c .if1 .taken) _) refl
-
-add-lengths-from : tie.Need-add-lengths-from
-add-lengths-from c = search needs
-
-array-read-lengths-from : tie.Need-array-read-lengths-from
-array-read-lengths-from c = search needs
-
-lengths-from-requires : tie.Need-lengths-from-requires
-lengths-from-requires c κs = search needs
-
-same-length : tie.Need-same-length
-same-length c = search needs
 
 returns-2 : tie.Need-returns-2
 unfolding lengthsAfter
@@ -56,14 +29,14 @@ pub lengths-after-spec : {M : Type 1} → statement M
 lengths-after-spec =
     tie.close
     (tie.spec
-    sub-section
-    part-section-start
-    part-section-end
-    slice-aggregate-section
-    section-requires
+    (λ c. search needs)
+    (λ c. search needs)
+    (λ c. search needs)
+    (λ c. search needs)
+    (λ c κs. search needs)
     returns
-    add-lengths-from
-    array-read-lengths-from
-    lengths-from-requires
-    same-length
+    (λ c. search needs)
+    (λ c. search needs)
+    (λ c κs. search needs)
+    (λ c. search needs)
     returns-2)

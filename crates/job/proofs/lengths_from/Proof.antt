@@ -16,24 +16,6 @@ returns c = refused _ _ _ _ (lengths-many _ _ _ _ _ (omega arith)) refl
 returns-2 : tie.Need-returns-2
 returns-2 c = refused _ _ _ _ (lengths-room _ _ _ _ _ (omega arith) (omega arith)) refl
 
-sub-part : tie.Need-sub-part
-sub-part c = search needs
-
-part-part-start : tie.Need-part-part-start
-part-part-start c = search needs
-
-part-part-end : tie.Need-part-part-end
-part-part-end c = search needs
-
-mul-if3 : tie.Need-mul-if3
-mul-if3 c = search needs
-
-mul-t16 : tie.Need-mul-t16
-mul-t16 c = search needs
-
-add-t17 : tie.Need-add-t17
-add-t17 c = search needs
-
 returns-3 : tie.Need-returns-3
 returns-3 c =
     let st = c .before .before .before .before .before .before in
@@ -41,27 +23,12 @@ returns-3 c =
     let a = st .args .at in
     refused _ _ _ _ (lengths-left _ _ _ _ _ (omega arith) (omega arith) (omega (arith, ap length (lent-is j a), length-drop a j))) refl
 
-section-requires : tie.Need-section-requires
-section-requires c κs = search needs
-
-mul-t21 : tie.Need-mul-t21
-mul-t21 c = search needs
-
-add-t22 : tie.Need-add-t22
-add-t22 c = search needs
-
-same-length : tie.Need-same-length
-same-length c = search needs
-
 returns-4 : tie.Need-returns-4
 returns-4 c =
     let st = c .before .before .before .before .before .before .before .before .before .before .before in
     let from = lent-is (now (st .args .job)) (st .args .at) in
     let r = c .before .before .before .section .ensures in
     refused _ _ _ _ (lengths-cut _ _ _ _ _ from r (omega arith) (omega arith) (omega arith)) (section-kept r (omega arith))
-
-same-length-2 : tie.Need-same-length-2
-same-length-2 c = search needs
 
 returns-5 : tie.Need-returns-5
 returns-5 c =
@@ -81,17 +48,17 @@ lengths-from-spec =
     (tie.spec
     returns
     returns-2
-    sub-part
-    part-part-start
-    part-part-end
-    mul-if3
-    mul-t16
-    add-t17
+    (λ c. search needs)
+    (λ c. search needs)
+    (λ c. search needs)
+    (λ c. search needs)
+    (λ c. search needs)
+    (λ c. search needs)
     returns-3
-    section-requires
-    mul-t21
-    add-t22
-    same-length
+    (λ c κs. search needs)
+    (λ c. search needs)
+    (λ c. search needs)
+    (λ c. search needs)
     returns-4
-    same-length-2
+    (λ c. search needs)
     returns-5)

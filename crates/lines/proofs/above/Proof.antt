@@ -29,9 +29,6 @@ add-result-2 c = let f = fitting (c .pre) in omega arith
 mul-result-6 : tie.Need-mul-result-6
 mul-result-6 c = let f = fitting (c .pre) in omega arith
 
-returns : tie.Need-returns
-returns c = search needs
-
 pub above-spec : {M : Type 1} → statement M
 above-spec =
     tie.close
@@ -44,4 +41,4 @@ above-spec =
     mul-result-5
     add-result-2
     mul-result-6
-    returns)
+    (λ c. search needs))

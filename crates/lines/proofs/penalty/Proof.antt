@@ -5,12 +5,6 @@ use borrow.Author.Needs.{needs}
 use Rattle.lines.proofs.penalty.Statement.{statement}
 use Rattle.lines.proofs.penalty.Tie as tie
 
-long-requires : tie.Need-long-requires
-long-requires c κs = search needs
-
-square-apart-requires : tie.Need-square-apart-requires
-square-apart-requires c κs = search needs
-
 mul-result : tie.Need-mul-result
 mul-result c =
     omega (arith, penalty-fits _ (c .before .before .pre .0) _ _ _ (c .before .before .pre .1) (c .before .long .ensures) (c .square-apart .ensures))
@@ -19,4 +13,4 @@ returns : tie.Need-returns
 returns c = penalty-is _ _ _ _ (c .before .long .ensures) (c .square-apart .ensures)
 
 pub penalty-spec : {M : Type 1} → statement M
-penalty-spec = tie.close (tie.spec long-requires square-apart-requires mul-result returns)
+penalty-spec = tie.close (tie.spec (λ c κs. search needs) (λ c κs. search needs) mul-result returns)

@@ -4,12 +4,6 @@ use borrow.Author.Needs.{needs}
 use Rattle.lines.proofs.square_apart.Statement.{statement}
 use Rattle.lines.proofs.square_apart.Tie as tie
 
-cast-d : tie.Need-cast-d
-cast-d c = search needs
-
-cast-d-2 : tie.Need-cast-d-2
-cast-d-2 c = search needs
-
 sub-d : tie.Need-sub-d
 sub-d c = sub-fits _ _ (c .pre .0) (c .pre .1)
 
@@ -23,4 +17,4 @@ returns : tie.Need-returns
 returns c = cast-is _ _ (c .pre .0) (c .pre .1)
 
 pub square-apart-spec : {M : Type 1} → statement M
-square-apart-spec = tie.close (tie.spec cast-d cast-d-2 sub-d mul-result cast-result returns)
+square-apart-spec = tie.close (tie.spec (λ c. search needs) (λ c. search needs) sub-d mul-result cast-result returns)

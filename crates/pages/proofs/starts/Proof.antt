@@ -52,9 +52,6 @@ sub-at-start c = going-began _ _ _ _ _ _ _ _ _ _ _ (c .before .before .before .b
 part-at-start-start : tie.Need-part-at-start-start Inv-loop μ-loop
 part-at-start-start c = going-began _ _ _ _ _ _ _ _ _ _ _ (c .before .before .before .before .before .loop .inv) (c .before .before .before .before .loop-test .taken) (starts-room (c .before .before .before .before .before .before .before .before .before .before .before .before .before .before .before .before .before .before .before .before .pre))
 
-part-at-start-end : tie.Need-part-at-start-end Inv-loop μ-loop
-part-at-start-end c = search needs
-
 at-start-requires : tie.Need-at-start-requires Inv-loop μ-loop
 at-start-requires c κs = going-ask _ _ _ _ _ _ _ _ _ _ _ _ _ _ _ (c .before .before .before .before .before .before .before .before .before .before .before .before .before .before .before .before .before .before .before .before .before .pre) (c .before .before .before .before .before .loop-test .taken) (c .before .before .before .before .before .before .loop .inv)
 
@@ -104,7 +101,7 @@ starts-spec =
     mul-at-start
     sub-at-start
     part-at-start-start
-    part-at-start-end
+    (λ c. search needs)
     at-start-requires
     add-count
     loop-less

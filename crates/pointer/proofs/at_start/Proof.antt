@@ -14,21 +14,6 @@ settle-requires c κs = start-settles _ _ _ _ _ _ _ _ (c .before .before .before
 join-requires : tie.Need-join-requires
 join-requires c κs = start-joins _ _ _ _ _ _ _ _ (c .before .before .before .before .before .before .before .before .before .before .before .before .before .before .before .before .before .before .before .before .before .before .pre) _ _ _ (c .before .before .before .before .before .before .before .before .before .before .before .before .before .point .ensures) _ _ (c .before .before .before .before .before .before .before .before .settle .ensures) (omega (arith, c .before .before .before .before .before .before .before .before .before .before .before .before .before .point .kept))
 
-same-length : tie.Need-same-length
-same-length c = search needs
-
-same-length-2 : tie.Need-same-length-2
-same-length-2 c = search needs
-
-same-length-3 : tie.Need-same-length-3
-same-length-3 c = search needs
-
-same-length-4 : tie.Need-same-length-4
-same-length-4 c = search needs
-
-same-length-5 : tie.Need-same-length-5
-same-length-5 c = search needs
-
 returns : tie.Need-returns
 returns c = start-done _ _ _ _ _ _ _ _ (c .before .before .before .before .before .before .before .before .before .before .before .before .before .before .before .before .before .before .before .before .before .before .before .before .before .before .before .before .before .pre) _ _ _ (c .before .before .before .before .before .before .before .before .before .before .before .before .before .before .before .before .before .before .before .before .point .ensures) _ _ (c .before .before .before .before .before .before .before .before .before .before .before .before .before .before .before .settle .ensures) _ _ _ _ (c .before .before .before .before .before .before .join .ensures)
 
@@ -39,9 +24,9 @@ at-start-spec =
     point-requires
     settle-requires
     join-requires
-    same-length
-    same-length-2
-    same-length-3
-    same-length-4
-    same-length-5
+    (λ c. search needs)
+    (λ c. search needs)
+    (λ c. search needs)
+    (λ c. search needs)
+    (λ c. search needs)
     returns)

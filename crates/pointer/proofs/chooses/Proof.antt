@@ -6,9 +6,6 @@ use borrow.Author.Needs.{needs}
 use Rattle.pointer.proofs.chooses.Statement.{statement}
 use Rattle.pointer.proofs.chooses.Tie as tie
 
-gap-requires : tie.Need-gap-requires
-gap-requires c κs = search needs
-
 returns : tie.Need-returns
 returns c = choose-near _ _ _ _ _ (c .before .before .gap .ensures) (c .if1 .taken)
 
@@ -19,4 +16,4 @@ returns-3 : tie.Need-returns-3
 returns-3 c = choose-has _ _ _ _ _ (c .before .before .before .before .gap .ensures) (c .before .before .before .before .before .before .pre .held .passed) (omega (arith, c .before .before .before .before .before .before .pre .within, sums-size _ _ (c .before .before .before .before .before .before .pre .held .is))) (c .before .before .if1 .left) (c .if2 .left) _ (c .before .before .before .before .before .before .pre .is)
 
 pub chooses-spec : {M : Type 1} → statement M
-chooses-spec = tie.close (tie.spec gap-requires returns returns-2 returns-3)
+chooses-spec = tie.close (tie.spec (λ c κs. search needs) returns returns-2 returns-3)

@@ -21,15 +21,6 @@ mul-right c = let a = c .before .before .before .before .before .before .before 
 slice-write-right : tie.Need-slice-write-right
 slice-write-right c = let a = c .before .before .before .before .before .before .before .before .before .before .before .before .before .before .pre .links (omega (arith, c .before .before .before .before .before .before .before .before .before .if1 .left)) in omega (arith, a .low, a .bests .size, a .right-size)
 
-same-length : tie.Need-same-length
-same-length c = search needs
-
-same-length-2 : tie.Need-same-length-2
-same-length-2 c = search needs
-
-same-length-3 : tie.Need-same-length-3
-same-length-3 c = search needs
-
 returns-2 : tie.Need-returns-2
 returns-2 c = joins-some _ _ _ _ _ _ _ _ _ _ _ (c .before .before .before .before .before .before .before .before .before .if1 .left) refl (c .before .before .before .before .before .links .ensures)
 
@@ -42,7 +33,7 @@ join-spec =
     cast-right
     mul-right
     slice-write-right
-    same-length
-    same-length-2
-    same-length-3
+    (λ c. search needs)
+    (λ c. search needs)
+    (λ c. search needs)
     returns-2)

@@ -22,9 +22,6 @@ mul-entry c = omega (arith, c .loop .inv .below, c .before .before .before .befo
 shared-slice-read-entry : tie.Need-shared-slice-read-entry Inv-loop μ-loop
 shared-slice-read-entry c = omega (arith, c .before .loop .inv .below, c .before .before .before .before .before .pre .steps .within, c .before .before .before .before .before .pre .size)
 
-wide-requires : tie.Need-wide-requires Inv-loop μ-loop
-wide-requires c κs = search needs
-
 gap-requires : tie.Need-gap-requires Inv-loop μ-loop
 gap-requires c κs =
     let to = jump-between (c .before .before .before .before .before .before .before .pre) _ _ (c .before .before .before .loop .inv .above) (c .before .before .before .loop .inv .below) (c .before .wide .ensures) (omega (arith, c .if1 .left)) in
@@ -72,7 +69,7 @@ jumps-spec =
     loop-holds
     mul-entry
     shared-slice-read-entry
-    wide-requires
+    (λ c κs. search needs)
     gap-requires
     put-requires
     add-taken

@@ -60,9 +60,6 @@ mul-wide c = omega (arith, c .before .before .before .before .before .before .lo
 shared-slice-read-wide : tie.Need-shared-slice-read-wide Inv-loop μ-loop
 shared-slice-read-wide c = omega (arith, c .before .before .before .before .before .before .before .loop .inv .within, c .before .before .before .before .before .before .before .before .before .before .before .before .before .pre .right-size)
 
-wide-requires : tie.Need-wide-requires Inv-loop μ-loop
-wide-requires c κs = search needs
-
 loop-less : tie.Need-loop-less Inv-loop μ-loop
 loop-less c = omega (arith, c .before .before .before .before .before .before .before .before .loop .inv .within, c .wide .ensures, c .before .before .before .before .before .before .before .before .before .before .before .before .before .before .pre .rises _ (c .before .before .before .before .before .before .before .before .loop .inv .above) (join-early _ _ _ _ _ _ (c .before .before .before .before .before .before .before .before .before .before .before .before .before .before .pre) _ _ _ _ (c .before .before .before .before .before .before .before .before .loop .inv) _ refl (c .before .before .before .before .before .before .if1 .taken)))
 
@@ -98,7 +95,7 @@ links-spec =
     add-taken
     mul-wide
     shared-slice-read-wide
-    wide-requires
+    (λ c κs. search needs)
     loop-less
     loop-again
     same-length

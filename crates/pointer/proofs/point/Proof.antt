@@ -11,9 +11,6 @@ steps-requires c κs = point-steps _ _ _ _ _ _ _ (c .before .before .before .bef
 jumps-requires : tie.Need-jumps-requires
 jumps-requires c κs = point-jumps _ _ _ _ _ _ _ (c .before .before .before .before .before .before .before .before .pre) _ _ _ (c .before .before .before .steps .ensures) (omega (arith, c .before .before .before .steps .kept))
 
-same-length : tie.Need-same-length
-same-length c = search needs
-
 returns : tie.Need-returns
 returns c = point-done _ _ _ _ _ _ _ (c .before .before .before .before .before .before .before .before .before .before .before .pre) _ _ _ (c .before .before .before .before .before .before .steps .ensures) _ _ _ (c .before .before .jumps .ensures)
 
@@ -23,5 +20,5 @@ point-spec =
     (tie.spec
     steps-requires
     jumps-requires
-    same-length
+    (λ c. search needs)
     returns)

@@ -12,32 +12,8 @@ pop-worse-requires c κs = adding-worse _ _ _ _ _ _ _ _ _ _ (c .before .before .
 pop-bridged-requires : tie.Need-pop-bridged-requires
 pop-bridged-requires c κs = adding-bridged _ _ _ _ _ _ _ _ _ _ (c .before .before .before .before .before .before .before .before .before .before .before .pre) _ _ _ (c .before .before .before .before .pop-worse .ensures .within) (omega (arith, c .before .before .before .before .pop-worse .ensures .place)) (omega (arith, c .before .before .before .before .pop-worse .ensures .place, c .before .before .before .before .pop-worse .ensures .ran .count)) (omega (arith, c .before .before .before .before .pop-worse .kept))
 
-cast-queue : tie.Need-cast-queue
-cast-queue c = search needs
-
-mul-queue : tie.Need-mul-queue
-mul-queue c = search needs
-
-slice-write-queue : tie.Need-slice-write-queue
-slice-write-queue c = search needs
-
-cast-t23 : tie.Need-cast-t23
-cast-t23 c = search needs
-
-put-requires : tie.Need-put-requires
-put-requires c κs = search needs
-
-add-t24 : tie.Need-add-t24
-add-t24 c = search needs
-
 add-t31 : tie.Need-add-t31
 add-t31 c = omega (arith, c .before .before .before .before .before .before .pop-bridged .ensures .ran .count, c .before .before .before .before .before .before .pop-bridged .ensures .place, c .before .before .before .before .before .before .pop-bridged .ensures .within, c .before .before .before .before .before .before .before .before .before .before .before .pop-worse .ensures .ran .count, c .before .before .before .before .before .before .before .before .before .before .before .pop-worse .ensures .place, c .before .before .before .before .before .before .before .before .before .before .before .before .before .before .before .before .before .before .pre .enough, c .before .before .before .before .before .before .before .before .before .before .before .before .before .before .before .before .before .before .good)
-
-same-length : tie.Need-same-length
-same-length c = search needs
-
-same-length-2 : tie.Need-same-length-2
-same-length-2 c = search needs
 
 returns : tie.Need-returns
 returns c = adding-done _ _ _ _ _ _ _ _ _ _ _ _ _ _ _ _ _ _ (c .before .before .before .before .before .before .before .before .before .before .before .before .before .before .before .before .before .before .pre) (c .before .before .before .before .before .before .before .before .before .before .before .pop-worse .ensures) (c .before .before .before .before .before .before .pop-bridged .ensures) refl (c .before .before .put .ensures)
@@ -48,13 +24,13 @@ add-spec =
     (tie.spec
     pop-worse-requires
     pop-bridged-requires
-    cast-queue
-    mul-queue
-    slice-write-queue
-    cast-t23
-    put-requires
-    add-t24
+    (λ c. search needs)
+    (λ c. search needs)
+    (λ c. search needs)
+    (λ c. search needs)
+    (λ c κs. search needs)
+    (λ c. search needs)
     add-t31
-    same-length
-    same-length-2
+    (λ c. search needs)
+    (λ c. search needs)
     returns)

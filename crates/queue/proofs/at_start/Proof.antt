@@ -15,12 +15,6 @@ candidates-requires c κs = starting-candidates _ _ _ _ _ _ _ _ _ _ (c .before .
 drop-worse-requires : tie.Need-drop-worse-requires
 drop-worse-requires c κs = starting-worse _ _ _ _ _ _ _ _ _ _ (c .before .before .before .before .before .before .before .before .before .before .before .before .before .before .before .before .before .before .pre) _ _ _ (c .before .before .before .before .before .before .before .before .before .before .before .drop-long .ensures (now (c .before .before .before .before .before .before .before .before .before .before .before .before .before .before .before .before .before .before .args .best))) (omega (arith, c .before .before .before .before .before .before .before .before .before .before .before .drop-long .kept)) _ _ _ (c .before .before .before .before .before .before .candidates .ensures)
 
-same-length : tie.Need-same-length
-same-length c = search needs
-
-same-length-2 : tie.Need-same-length-2
-same-length-2 c = search needs
-
 returns : tie.Need-returns
 returns c = starting-done _ _ _ _ _ _ _ _ _ _ (c .before .before .before .before .before .before .before .before .before .before .before .before .before .before .before .before .before .before .before .before .before .pre) _ _ _ (c .before .before .before .before .before .before .before .before .before .before .before .before .before .before .drop-long .ensures (now (c .before .before .before .before .before .before .before .before .before .before .before .before .before .before .before .before .before .before .before .before .before .args .best))) (omega (arith, c .before .before .before .before .before .before .before .before .before .before .before .before .before .before .drop-long .kept)) _ _ _ (c .before .before .before .before .before .before .before .before .before .candidates .ensures) _ _ _ (c .before .before .drop-worse .ensures)
 
@@ -31,6 +25,6 @@ at-start-spec =
     drop-long-requires
     candidates-requires
     drop-worse-requires
-    same-length
-    same-length-2
+    (λ c. search needs)
+    (λ c. search needs)
     returns)

@@ -11,9 +11,6 @@ line-requires c κs = record { first = c .before .before .before .before .pre .f
 pass-requires : tie.Need-pass-requires
 pass-requires c κs = (omega (arith, c .before .before .before .before .before .before .before .before .pre .enough), omega (arith, c .before .before .before .before .before .before .before .before .pre .queued .within, c .before .before .before .before .before .before .before .before .pre .words .few))
 
-same-length : tie.Need-same-length
-same-length c = search needs
-
 returns : tie.Need-returns
 returns c = considering-long _ _ _ _ _ _ _ _ _ _ (c .before .before .before .before .before .before .before .before .before .before .before .pre) _ _ _ _ _ (c .before .before .before .before .before .before .line .ensures) (c .before .before .before .before .if1 .taken) (c .before .before .pass .ensures)
 
@@ -29,20 +26,11 @@ shared-slice-read-if2 c = omega (arith, above _ _ _ _ _ _ _ _ _ _ (c .before .be
 pass-requires-2 : tie.Need-pass-requires-2
 pass-requires-2 c κs = (omega (arith, c .before .before .before .before .before .before .before .before .before .before .pre .enough), omega (arith, c .before .before .before .before .before .before .before .before .before .before .pre .queued .within, c .before .before .before .before .before .before .before .before .before .before .pre .words .few))
 
-same-length-2 : tie.Need-same-length-2
-same-length-2 c = search needs
-
 returns-2 : tie.Need-returns-2
 returns-2 c = considering-none _ _ _ _ _ _ _ _ _ _ (c .before .before .before .before .before .before .before .before .before .before .before .before .before .pre) _ _ _ _ (c .before .before .before .before .if2 .taken) (c .before .before .pass2 .ensures)
 
 add-requires : tie.Need-add-requires
 add-requires c κs = considering-add _ _ _ _ _ _ _ _ _ _ (c .before .before .before .before .before .before .before .before .before .before .before .pre) _ (c .before .before .before .before .before .before .line .ensures) (c .before .before .before .before .if1 .left) (c .before .before .if2 .left)
-
-same-length-3 : tie.Need-same-length-3
-same-length-3 c = search needs
-
-same-length-4 : tie.Need-same-length-4
-same-length-4 c = search needs
 
 returns-3 : tie.Need-returns-3
 returns-3 c = considering-done _ _ _ _ _ _ _ _ _ _ (c .before .before .before .before .before .before .before .before .before .before .before .before .before .before .before .before .pre) _ _ _ _ _ _ (c .before .before .before .before .before .before .before .before .before .before .before .line .ensures) (c .before .before .before .before .before .before .before .before .before .if1 .left) (c .before .before .before .before .before .before .before .if2 .left) (c .before .before .before .before .add .ensures)
@@ -53,15 +41,15 @@ consider-spec =
     (tie.spec
     line-requires
     pass-requires
-    same-length
+    (λ c. search needs)
     returns
     sub-if2
     mul-if2
     shared-slice-read-if2
     pass-requires-2
-    same-length-2
+    (λ c. search needs)
     returns-2
     add-requires
-    same-length-3
-    same-length-4
+    (λ c. search needs)
+    (λ c. search needs)
     returns-3)

@@ -26,9 +26,6 @@ mul-j c = omega (arith, c .before .before .before .before .before .pre .places, 
 shared-slice-read-j : tie.Need-shared-slice-read-j Inv-loop μ-loop
 shared-slice-read-j c = omega (arith, c .before .before .before .before .before .before .pre .places)
 
-wide-requires : tie.Need-wide-requires Inv-loop μ-loop
-wide-requires c κs = search needs
-
 line-requires : tie.Need-line-requires Inv-loop μ-loop
 line-requires c κs =
     let e = c .before .before .before .before .before .before .before .pre .each (c .before .before .before .loop .at) (c .before .before .before .loop .inv [] .from) (c .before .before .loop-test .taken) in
@@ -80,7 +77,7 @@ drop-long-spec =
     loop-holds
     mul-j
     shared-slice-read-j
-    wide-requires
+    (λ c κs. search needs)
     line-requires
     put-requires
     add-at

@@ -38,14 +38,8 @@ mul-k c = omega (arith, c .before .loop-test .taken, c .before .before .before .
 shared-slice-read-k : tie.Need-shared-slice-read-k Inv-loop μ-loop
 shared-slice-read-k c = omega (arith, c .before .before .loop-test .taken, c .before .before .before .before .before .before .before .before .pre .places)
 
-wide-requires : tie.Need-wide-requires Inv-loop μ-loop
-wide-requires c κs = search needs
-
 through-requires : tie.Need-through-requires Inv-loop μ-loop
 through-requires c κs = member-through _ _ _ _ (c .before .before .before .before .before .before .before .before .before .pre .words) _ _ (c .wide .ensures) (c .before .before .before .before .before .before .before .before .before .pre .each _ (c .before .before .before .before .loop .inv .from) (omega (arith, c .before .before .before .loop-test .taken)))
-
-wide-requires-2 : tie.Need-wide-requires-2 Inv-loop μ-loop
-wide-requires-2 c κs = search needs
 
 through-requires-2 : tie.Need-through-requires-2 Inv-loop μ-loop
 through-requires-2 c κs = member-through _ _ _ _ (c .before .before .before .before .before .before .before .before .before .before .before .pre .words) _ _ (c .wide2 .ensures) (c .before .before .before .before .before .before .before .before .before .before .before .pre .each _ (omega (arith, c .before .before .before .before .before .before .loop .inv .from)) (c .before .before .before .before .before .loop-test .taken))
@@ -95,9 +89,9 @@ drop-worse-spec =
     add-k
     mul-k
     shared-slice-read-k
-    wide-requires
+    (λ c κs. search needs)
     through-requires
-    wide-requires-2
+    (λ c κs. search needs)
     through-requires-2
     put-requires
     add-at

@@ -42,12 +42,6 @@ mul-n c = omega (arith, c .before .loop-test .taken, c .before .before .loop .in
 shared-slice-read-n : tie.Need-shared-slice-read-n Inv-loop μ-loop
 shared-slice-read-n c = omega (arith, c .before .before .loop-test .taken, c .before .before .before .loop .inv .within, c .before .before .before .before .before .before .before .before .pre .places)
 
-wide-requires : tie.Need-wide-requires Inv-loop μ-loop
-wide-requires c κs = search needs
-
-wide-requires-2 : tie.Need-wide-requires-2 Inv-loop μ-loop
-wide-requires-2 c κs = search needs
-
 bridged-requires : tie.Need-bridged-requires Inv-loop μ-loop
 bridged-requires c κs = rear-three _ _ _ _ _ _ _ _ _ _ _ _ (c .before .before .before .before .before .before .before .before .before .before .pre) (c .before .before .before .before .loop-test .taken) (c .before .before .before .before .before .loop .inv .within) (c .before .wide .ensures) (c .wide2 .ensures)
 
@@ -97,8 +91,8 @@ pop-bridged-spec =
     sub-n
     mul-n
     shared-slice-read-n
-    wide-requires
-    wide-requires-2
+    (λ c κs. search needs)
+    (λ c κs. search needs)
     bridged-requires
     put-requires
     sub-at

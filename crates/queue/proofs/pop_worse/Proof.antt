@@ -33,9 +33,6 @@ mul-k c = omega (arith, c .loop-test .taken, c .before .loop .inv .within, c .be
 shared-slice-read-k : tie.Need-shared-slice-read-k Inv-loop μ-loop
 shared-slice-read-k c = omega (arith, c .before .loop-test .taken, c .before .before .loop .inv .within, c .before .before .before .before .before .before .before .before .pre .places)
 
-wide-requires : tie.Need-wide-requires Inv-loop μ-loop
-wide-requires c κs = search needs
-
 through-requires-2 : tie.Need-through-requires-2 Inv-loop μ-loop
 through-requires-2 c κs = member-through _ _ _ _ (c .before .before .before .before .before .before .before .before .before .pre .words) _ _ (c .wide .ensures) (c .before .before .before .before .before .before .before .before .before .pre .each _ (omega (arith, c .before .before .loop-test .taken)) (omega (arith, c .before .before .loop-test .taken, c .before .before .before .loop .inv .within)))
 
@@ -82,7 +79,7 @@ pop-worse-spec =
     sub-k
     mul-k
     shared-slice-read-k
-    wide-requires
+    (λ c κs. search needs)
     through-requires-2
     put-requires
     sub-at

@@ -23,21 +23,6 @@ abbrev μ-loop : tie.MeasureT-loop
 loop-holds : tie.Need-loop-holds Inv-loop μ-loop
 loop-holds c = (search needs, refl)
 
-mul-length-holds : tie.Need-mul-length-holds Inv-loop μ-loop
-mul-length-holds c = search needs
-
-shared-slice-read-length-holds : tie.Need-shared-slice-read-length-holds Inv-loop μ-loop
-shared-slice-read-length-holds c = search needs
-
-length-holds-requires : tie.Need-length-holds-requires Inv-loop μ-loop
-length-holds-requires c κs = search needs
-
-add-k : tie.Need-add-k Inv-loop μ-loop
-add-k c = search needs
-
-loop-less : tie.Need-loop-less Inv-loop μ-loop
-loop-less c = search needs
-
 loop-again : tie.Need-loop-again Inv-loop μ-loop
 loop-again c =
     let ws = c .before .before .before .before .before .before .args .lengths .now in
@@ -61,10 +46,10 @@ all-hold-spec =
     Inv-loop
     μ-loop
     loop-holds
-    mul-length-holds
-    shared-slice-read-length-holds
-    length-holds-requires
-    add-k
-    loop-less
+    (λ c. search needs)
+    (λ c. search needs)
+    (λ c κs. search needs)
+    (λ c. search needs)
+    (λ c. search needs)
     loop-again
     returns)

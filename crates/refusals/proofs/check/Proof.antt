@@ -18,18 +18,9 @@ returns-3 : tie.Need-returns-3
 unfolding checked
 returns-3 c = simp (ne-eqb _ _ (c .before .before .if1 .left), le-ltb _ _ (c .before .if2 .left), not-true (c .before .before .before .before .before .before .args .hold) (c .if3 .taken))
 
-all-hold-requires : tie.Need-all-hold-requires
-all-hold-requires c κs = search needs
-
-first-bad-requires : tie.Need-first-bad-requires
-first-bad-requires c κs = search needs
-
 returns-4 : tie.Need-returns-4
 unfolding checked
 returns-4 c = simp (ne-eqb _ _ (c .before .before .before .before .before .if1 .left), le-ltb _ _ (c .before .before .before .before .if2 .left), not-false (c .before .before .before .before .before .before .before .before .before .args .hold) (c .before .before .before .if3 .left), sym (c .before .before .all-hold .ensures) ∙ not-true (c .before .before .all-hold .result) (c .before .if4 .taken), c .first-bad .ensures)
-
-first-short-requires : tie.Need-first-short-requires
-first-short-requires c κs = search needs
 
 returns-5 : tie.Need-returns-5
 unfolding checked
@@ -46,9 +37,9 @@ check-spec =
     returns
     returns-2
     returns-3
-    all-hold-requires
-    first-bad-requires
+    (λ c κs. search needs)
+    (λ c κs. search needs)
     returns-4
-    first-short-requires
+    (λ c κs. search needs)
     returns-5
     returns-6)

@@ -19,26 +19,8 @@ abbrev μ-loop : tie.MeasureT-loop
 loop-holds : tie.Need-loop-holds Inv-loop μ-loop
 loop-holds c = (search needs, refl)
 
-mul-length-holds : tie.Need-mul-length-holds Inv-loop μ-loop
-mul-length-holds c = search needs
-
-shared-slice-read-length-holds : tie.Need-shared-slice-read-length-holds Inv-loop μ-loop
-shared-slice-read-length-holds c = search needs
-
-length-holds-requires : tie.Need-length-holds-requires Inv-loop μ-loop
-length-holds-requires c κs = search needs
-
-add-result : tie.Need-add-result Inv-loop μ-loop
-add-result c = search needs
-
 returns : tie.Need-returns Inv-loop μ-loop
 returns c = sym (failing-here _ _ lengthHolds (c .before .before .before .loop-test .taken) (sym (c .before .length-holds .ensures) ∙ not-true (c .before .length-holds .result) (c .if1 .taken))) ∙ c .before .before .before .before .loop .inv .1
-
-add-k : tie.Need-add-k Inv-loop μ-loop
-add-k c = search needs
-
-loop-less : tie.Need-loop-less Inv-loop μ-loop
-loop-less c = search needs
 
 loop-again : tie.Need-loop-again Inv-loop μ-loop
 loop-again c = (search needs, sym (failing-later _ _ lengthHolds (c .before .before .before .loop-test .taken) (sym (c .before .length-holds .ensures) ∙ not-false (c .before .length-holds .result) (c .if1 .left))) ∙ c .before .before .before .before .loop .inv .1)
@@ -53,12 +35,12 @@ first-bad-spec =
     Inv-loop
     μ-loop
     loop-holds
-    mul-length-holds
-    shared-slice-read-length-holds
-    length-holds-requires
-    add-result
+    (λ c. search needs)
+    (λ c. search needs)
+    (λ c κs. search needs)
+    (λ c. search needs)
     returns
-    add-k
-    loop-less
+    (λ c. search needs)
+    (λ c. search needs)
     loop-again
     returns-2)

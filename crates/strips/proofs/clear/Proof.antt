@@ -18,15 +18,6 @@ loop-holds c = clearing-first _ _
 mul-strip : tie.Need-mul-strip Inv-loop μ-loop
 mul-strip c = omega (arith, c .before .before .pre, c .before .before .good, c .before .loop .inv .len)
 
-slice-write-strip : tie.Need-slice-write-strip Inv-loop μ-loop
-slice-write-strip c = search needs
-
-add-k : tie.Need-add-k Inv-loop μ-loop
-add-k c = search needs
-
-loop-less : tie.Need-loop-less Inv-loop μ-loop
-loop-less c = search needs
-
 loop-again : tie.Need-loop-again Inv-loop μ-loop
 loop-again c = clearing-more _ _ _ _ (c .before .loop .inv) (c .loop-test .taken) (c .before .before .pre)
 
@@ -44,9 +35,9 @@ clear-spec =
     μ-loop
     loop-holds
     mul-strip
-    slice-write-strip
-    add-k
-    loop-less
+    (λ c. search needs)
+    (λ c. search needs)
+    (λ c. search needs)
     loop-again
     same-length
     returns)

@@ -15,32 +15,17 @@ Inv-loop lengths sums₀ k₀ total₀ sums k total = Filling lengths sums₀ su
 abbrev μ-loop : tie.MeasureT-loop
 μ-loop lengths sums₀ k₀ total₀ sums k total = length lengths - k
 
-slice-write-sums : tie.Need-slice-write-sums Inv-loop μ-loop
-slice-write-sums c = search needs
-
 loop-holds : tie.Need-loop-holds Inv-loop μ-loop
 loop-holds c = filling-first _ (now (c .args .sums)) (omega arith)
 
-mul-total : tie.Need-mul-total Inv-loop μ-loop
-mul-total c = search needs
-
-shared-slice-read-total : tie.Need-shared-slice-read-total Inv-loop μ-loop
-shared-slice-read-total c = search needs
-
 add-total : tie.Need-add-total Inv-loop μ-loop
 add-total c = omega (arith, filling-fits _ _ _ _ _ (c .before .before .loop .inv) (c .before .loop-test .taken) (c .before .before .before .pre .allowed) (c .before .before .before .pre .few))
-
-add-k : tie.Need-add-k Inv-loop μ-loop
-add-k c = search needs
 
 mul-sums : tie.Need-mul-sums Inv-loop μ-loop
 mul-sums c = omega (arith, c .before .before .before .pre, c .before .before .before .good)
 
 slice-write-sums-2 : tie.Need-slice-write-sums-2 Inv-loop μ-loop
 slice-write-sums-2 c = omega (arith, c .before .before .before .pre, c .before .before .loop .inv .len, length-set (now (c .before .before .before .args .sums)) 0 0)
-
-loop-less : tie.Need-loop-less Inv-loop μ-loop
-loop-less c = search needs
 
 loop-again : tie.Need-loop-again Inv-loop μ-loop
 loop-again c = filling-more _ _ _ _ _ (c .before .before .loop .inv) (c .before .loop-test .taken) (omega (arith, c .before .before .before .pre, length-set (now (c .before .before .before .args .sums)) 0 0))
@@ -57,15 +42,15 @@ fill-sums-spec =
     (tie.spec
     Inv-loop
     μ-loop
-    slice-write-sums
+    (λ c. search needs)
     loop-holds
-    mul-total
-    shared-slice-read-total
+    (λ c. search needs)
+    (λ c. search needs)
     add-total
-    add-k
+    (λ c. search needs)
     mul-sums
     slice-write-sums-2
-    loop-less
+    (λ c. search needs)
     loop-again
     same-length
     returns)

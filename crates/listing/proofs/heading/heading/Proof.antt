@@ -4,26 +4,14 @@ use borrow.Author.Needs.{needs}
 use Rattle.listing.proofs.heading.heading.Statement.{statement}
 use Rattle.listing.proofs.heading.heading.Tie as tie
 
-slice-aggregate-named : tie.Need-slice-aggregate-named
-slice-aggregate-named c = search needs
-
 named-requires : tie.Need-named-requires
 named-requires c κs = kind-fits _ _ _ _ _ _ (c .before .before .before .before .before .before .pre)
-
-slice-aggregate-named-2 : tie.Need-slice-aggregate-named-2
-slice-aggregate-named-2 c = search needs
 
 named-requires-2 : tie.Need-named-requires-2
 named-requires-2 c κs = cost-fits _ _ _ _ _ _ (c .before .before .before .before .before .before .before .before .before .before .before .pre) (c .before .before .before .before .named .ensures)
 
-slice-aggregate-named-3 : tie.Need-slice-aggregate-named-3
-slice-aggregate-named-3 c = search needs
-
 named-requires-3 : tie.Need-named-requires-3
 named-requires-3 c κs = parts-fit _ _ _ _ _ _ (c .before .before .before .before .before .before .before .before .before .before .before .before .before .before .before .before .pre) (c .before .before .before .before .before .before .before .before .before .named .ensures) (c .before .before .before .before .named2 .ensures)
-
-same-length : tie.Need-same-length
-same-length c = search needs
 
 returns : tie.Need-returns
 returns c = headed-put _ _ _ _ _ _ (c .before .before .before .before .before .before .before .before .before .before .before .before .before .before .before .before .before .before .before .pre) (c .before .before .before .before .before .before .before .before .before .before .before .before .named .ensures) (c .before .before .before .before .before .before .before .named2 .ensures) (c .before .before .named3 .ensures)
@@ -32,11 +20,11 @@ pub heading-spec : {M : Type 1} → statement M
 heading-spec =
     tie.close
     (tie.spec
-    slice-aggregate-named
+    (λ c. search needs)
     named-requires
-    slice-aggregate-named-2
+    (λ c. search needs)
     named-requires-2
-    slice-aggregate-named-3
+    (λ c. search needs)
     named-requires-3
-    same-length
+    (λ c. search needs)
     returns)

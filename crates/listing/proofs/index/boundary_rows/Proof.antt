@@ -24,9 +24,6 @@ mul-wide c = omega (arith, c .before .before .before .before .before .good)
 shared-slice-read-wide : tie.Need-shared-slice-read-wide Inv-loop μ-loop
 shared-slice-read-wide c = omega arith
 
-wide-requires : tie.Need-wide-requires Inv-loop μ-loop
-wide-requires c κs = search needs
-
 boundary-row-requires : tie.Need-boundary-row-requires Inv-loop μ-loop
 boundary-row-requires c κs = page-asks _ _ _ _ _ _ _ (c .before .before .before .before .loop .inv) (c .before .before .before .before .before .before .before .before .pre) (c .before .before .before .loop-test .taken) _ (c .before .wide .ensures)
 
@@ -54,7 +51,7 @@ boundary-rows-spec =
     loop-holds
     mul-wide
     shared-slice-read-wide
-    wide-requires
+    (λ c κs. search needs)
     boundary-row-requires
     add-k
     loop-less

@@ -5,15 +5,6 @@ use borrow.Author.Needs.{needs}
 use Rattle.listing.proofs.index.index_rows.Statement.{statement}
 use Rattle.listing.proofs.index.index_rows.Tie as tie
 
-slice-aggregate-heading : tie.Need-slice-aggregate-heading
-slice-aggregate-heading c = search needs
-
-slice-aggregate-heading-2 : tie.Need-slice-aggregate-heading-2
-slice-aggregate-heading-2 c = search needs
-
-slice-aggregate-heading-3 : tie.Need-slice-aggregate-heading-3
-slice-aggregate-heading-3 c = search needs
-
 heading-requires : tie.Need-heading-requires
 unfolding indexRows
 heading-requires c κs = head-fits _ _ _ (c .before .before .before .before .before .before .before .pre .room)
@@ -22,18 +13,9 @@ boundary-rows-requires : tie.Need-boundary-rows-requires
 unfolding indexRows
 boundary-rows-requires c κs = record { items = c .before .before .before .before .before .before .before .before .before .before .before .pre .items; room = rows-fit _ _ _ (c .before .before .before .before .before .before .before .before .before .before .before .pre .room) (c .before .before .before .heading .ensures) }
 
-slice-aggregate-named : tie.Need-slice-aggregate-named
-slice-aggregate-named c = search needs
-
-slice-aggregate-named-2 : tie.Need-slice-aggregate-named-2
-slice-aggregate-named-2 c = search needs
-
 named-requires : tie.Need-named-requires
 unfolding indexRows
 named-requires c κs = moves-fit _ _ _ (c .before .before .before .before .before .before .before .before .before .before .before .before .before .before .before .before .before .pre .room) (c .before .before .before .before .before .before .before .before .before .heading .ensures) (c .before .before .before .before .before .boundary-rows .ensures)
-
-same-length : tie.Need-same-length
-same-length c = search needs
 
 returns : tie.Need-returns
 unfolding indexRows
@@ -43,13 +25,13 @@ pub index-rows-spec : {M : Type 1} → statement M
 index-rows-spec =
     tie.close
     (tie.spec
-    slice-aggregate-heading
-    slice-aggregate-heading-2
-    slice-aggregate-heading-3
+    (λ c. search needs)
+    (λ c. search needs)
+    (λ c. search needs)
     heading-requires
     boundary-rows-requires
-    slice-aggregate-named
-    slice-aggregate-named-2
+    (λ c. search needs)
+    (λ c. search needs)
     named-requires
-    same-length
+    (λ c. search needs)
     returns)

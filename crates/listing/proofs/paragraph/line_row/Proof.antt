@@ -7,23 +7,11 @@ use Rattle.listing.proofs.paragraph.line_row.Tie as tie
 line-requires : tie.Need-line-requires
 line-requires c κs = line-span _ _ _ _ _ _ (c .before .before .before .pre)
 
-add-charge : tie.Need-add-charge
-add-charge c = search needs
-
 charge-requires : tie.Need-charge-requires
 charge-requires c κs = (line-limits _ _ _ _ _ _ (c .before .before .before .before .pre), line-small _ _ _ _ _ _ (c .before .before .before .before .pre) _ (c .line .ensures))
 
-long-requires : tie.Need-long-requires
-long-requires c κs = search needs
-
-slice-aggregate-numbered : tie.Need-slice-aggregate-numbered
-slice-aggregate-numbered c = search needs
-
 numbered-requires : tie.Need-numbered-requires
 numbered-requires c κs = line-fits _ _ _ _ _ _ (c .before .before .before .before .before .before .before .before .pre) _ _ _ (c .before .before .before .before .line .ensures) (c .before .long .ensures) (c .before .before .before .charge .ensures)
-
-same-length : tie.Need-same-length
-same-length c = search needs
 
 returns : tie.Need-returns
 returns c = line-put _ _ _ _ _ _ (c .before .before .before .before .before .before .before .before .before .before .before .pre) _ _ _ (c .before .before .before .before .before .before .before .line .ensures) (c .before .before .before .before .long .ensures) (c .before .before .before .before .before .before .charge .ensures) (c .before .before .numbered .ensures)
@@ -33,10 +21,10 @@ line-row-spec =
     tie.close
     (tie.spec
     line-requires
-    add-charge
+    (λ c. search needs)
     charge-requires
-    long-requires
-    slice-aggregate-numbered
+    (λ c κs. search needs)
+    (λ c. search needs)
     numbered-requires
-    same-length
+    (λ c. search needs)
     returns)

@@ -27,9 +27,6 @@ mul-wide c = omega (arith, c .before .before .before .before .before .before .go
 shared-slice-read-wide : tie.Need-shared-slice-read-wide Inv-loop μ-loop
 shared-slice-read-wide c = omega arith
 
-wide-requires : tie.Need-wide-requires Inv-loop μ-loop
-wide-requires c κs = search needs
-
 next-start-requires : tie.Need-next-start-requires Inv-loop μ-loop
 next-start-requires c κs = c .before .before .loop-test .taken
 
@@ -61,7 +58,7 @@ line-rows-spec =
     loop-holds
     mul-wide
     shared-slice-read-wide
-    wide-requires
+    (λ c κs. search needs)
     next-start-requires
     line-row-requires
     add-k

@@ -6,18 +6,6 @@ use borrow.Author.Needs.{needs}
 use Rattle.listing.proofs.paragraph.next_start.Statement.{statement}
 use Rattle.listing.proofs.paragraph.next_start.Tie as tie
 
-add-next : tie.Need-add-next
-add-next c = search needs
-
-mul-wide : tie.Need-mul-wide
-mul-wide c = search needs
-
-shared-slice-read-wide : tie.Need-shared-slice-read-wide
-shared-slice-read-wide c = search needs
-
-wide-requires : tie.Need-wide-requires
-wide-requires c κs = search needs
-
 returns : tie.Need-returns
 returns c = c .wide .ensures ∙ inside (c .before .before .before .before .args .breaks .now) (c .before .before .before .before .args .k + 1) 0 (c .before .before .before .before .args .end) (c .before .before .if1 .taken)
 
@@ -26,4 +14,4 @@ returns-2 c = outside (c .before .before .args .breaks .now) (c .before .before 
 
 pub next-start-spec : {M : Type 1} → statement M
 next-start-spec =
-    tie.close (tie.spec add-next mul-wide shared-slice-read-wide wide-requires returns returns-2)
+    tie.close (tie.spec (λ c. search needs) (λ c. search needs) (λ c. search needs) (λ c κs. search needs) returns returns-2)

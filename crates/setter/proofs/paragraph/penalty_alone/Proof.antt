@@ -4,9 +4,6 @@ use borrow.Author.Needs.{needs}
 use Rattle.setter.proofs.paragraph.penalty_alone.Statement.{statement}
 use Rattle.setter.proofs.paragraph.penalty_alone.Tie as tie
 
-limits-hold-requires : tie.Need-limits-hold-requires
-limits-hold-requires c κs = search needs
-
 returns : tie.Need-returns
 returns c = penalty-limits _ _ (c .before .limits-hold .result) (c .before .limits-hold .ensures) (c .if1 .taken)
 
@@ -21,4 +18,4 @@ returns-3 c = penalty-given _ _ (c .before .before .before .limits-hold .result)
 
 pub penalty-alone-spec : {M : Type 1} → statement M
 penalty-alone-spec =
-    tie.close (tie.spec limits-hold-requires returns returns-2 penalty-requires returns-3)
+    tie.close (tie.spec (λ c κs. search needs) returns returns-2 penalty-requires returns-3)

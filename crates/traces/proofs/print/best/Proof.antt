@@ -12,17 +12,11 @@ Inv-loop entries count most k₀ t6 k = most ≤ length entries
 abbrev μ-loop : tie.MeasureT-loop
 μ-loop entries count most k₀ t6 k = most - k
 
-slice-aggregate-write-all : tie.Need-slice-aggregate-write-all Inv-loop μ-loop
-slice-aggregate-write-all c = search needs
-
 write-all-requires : tie.Need-write-all-requires Inv-loop μ-loop
 write-all-requires c κs = tt
 
 fewer-requires : tie.Need-fewer-requires Inv-loop μ-loop
 fewer-requires c κs = tt
-
-loop-holds : tie.Need-loop-holds Inv-loop μ-loop
-loop-holds c = search needs
 
 mul-entry : tie.Need-mul-entry Inv-loop μ-loop
 mul-entry c = omega arith
@@ -39,12 +33,6 @@ add-k c = omega arith
 loop-less : tie.Need-loop-less Inv-loop μ-loop
 loop-less c = omega arith
 
-loop-again : tie.Need-loop-again Inv-loop μ-loop
-loop-again c = search needs
-
-slice-aggregate-write-all-2 : tie.Need-slice-aggregate-write-all-2 Inv-loop μ-loop
-slice-aggregate-write-all-2 c = search needs
-
 write-all-requires-2 : tie.Need-write-all-requires-2 Inv-loop μ-loop
 write-all-requires-2 c κs = tt
 
@@ -57,16 +45,16 @@ best-spec =
     (tie.spec
     Inv-loop
     μ-loop
-    slice-aggregate-write-all
+    (λ c. search needs)
     write-all-requires
     fewer-requires
-    loop-holds
+    (λ c. search needs)
     mul-entry
     shared-slice-read-entry
     entry-requires
     add-k
     loop-less
-    loop-again
-    slice-aggregate-write-all-2
+    (λ c. search needs)
+    (λ c. search needs)
     write-all-requires-2
     returns)

@@ -18,9 +18,6 @@ write-all-requires c κs = tt
 fewer-requires : tie.Need-fewer-requires Inv-loop μ-loop
 fewer-requires c κs = tt
 
-loop-holds : tie.Need-loop-holds Inv-loop μ-loop
-loop-holds c = search needs
-
 mul-short-entry : tie.Need-mul-short-entry Inv-loop μ-loop
 mul-short-entry c = omega arith
 
@@ -36,12 +33,6 @@ add-k c = omega arith
 loop-less : tie.Need-loop-less Inv-loop μ-loop
 loop-less c = omega arith
 
-loop-again : tie.Need-loop-again Inv-loop μ-loop
-loop-again c = search needs
-
-slice-aggregate-write-all : tie.Need-slice-aggregate-write-all Inv-loop μ-loop
-slice-aggregate-write-all c = search needs
-
 write-all-requires-2 : tie.Need-write-all-requires-2 Inv-loop μ-loop
 write-all-requires-2 c κs = tt
 
@@ -56,13 +47,13 @@ strip-spec =
     μ-loop
     write-all-requires
     fewer-requires
-    loop-holds
+    (λ c. search needs)
     mul-short-entry
     shared-slice-read-short-entry
     short-entry-requires
     add-k
     loop-less
-    loop-again
-    slice-aggregate-write-all
+    (λ c. search needs)
+    (λ c. search needs)
     write-all-requires-2
     returns)
