@@ -10,8 +10,10 @@ use Rattle.laws.specs.Table as Table
 use Rattle.paper.specs.declared.Limits.{Limits}
 use Rattle.paper.specs.declared.PageLimits.{PageLimits}
 use Rattle.paper.specs.declared.Refusal.the-variants.{Empty, Many, Limits as BadLimits, Length}
+use Rattle.paper.specs.Lines as Lines
+use Rattle.paper.specs.Lines.{admissible, charge, settings}
 use Rattle.paper.specs.Paragraph as Paragraph
-use Rattle.paper.specs.Paragraph.{sum, line, admissible, penalty, charge, paragraph}
+use Rattle.paper.specs.Paragraph.{sum, line, penalty, lines, paragraph}
 use Rattle.paper.specs.Index as Index
 use Rattle.paper.specs.Index.{gap, page, item, index}
 use Rattle.paper.specs.Allowed.{lengthHolds, limitsHold, pageLimitsHold}
@@ -58,18 +60,20 @@ refusal-order = refl
 
 -- ---- the worked moves: "P1's moves are 41 43 33 25 35 28 17; G1's are 39 37 30."
 pub moves-P1 : map code (queueMoves (limits 1 6 6 1) (3 ∷ 2 ∷ 2 ∷ 5 ∷ [])) ≡ 41 ∷ 43 ∷ 33 ∷ 25 ∷ 35 ∷ 28 ∷ 17 ∷ []
-unfolding sum line admissible penalty charge paragraph sqd Paragraph.best Table.best code kindNumber textOf F edge chord dropLong popWorse popBridged add consider candidates dropWorse settled QueueRules.atStart QueueRules.afterStarts queueMoves
+unfolding sum line penalty lines paragraph sqd admissible charge settings Lines.best Paragraph.best Table.best code kindNumber textOf F edge chord
+    dropLong popWorse popBridged add consider candidates dropWorse settled QueueRules.atStart QueueRules.afterStarts queueMoves
 moves-P1 = refl
 
 pub moves-G1 : map code (pointerMoves (pages 2 7) (3 ∷ 4 ∷ 2 ∷ 5 ∷ [])) ≡ 39 ∷ 37 ∷ 30 ∷ []
-unfolding sum gap page item index Index.best Table.best code kindNumber pagesOf steps jumps links pointed linked PointerRules.atStart PointerRules.afterStarts pointerMoves
+unfolding sum gap page item index Index.best Table.best code kindNumber pagesOf steps jumps links pointed linked
+    PointerRules.atStart PointerRules.afterStarts pointerMoves
 moves-G1 = refl
 
 -- ---- other settings: P3's "1 3 costs the same", and "Filling each line as far as it goes: P1 would cost 17."
 pub other-P3 : total (paragraph (limits 2 4 6 1) (3 ∷ 2 ∷ 2 ∷ [])) 1 (3 ∷ []) ≡ total (paragraph (limits 2 4 6 1) (3 ∷ 2 ∷ 2 ∷ [])) 1 (2 ∷ [])
-unfolding sum line penalty charge paragraph sqd
+unfolding sum line penalty lines paragraph charge settings sqd
 other-P3 = refl
 
 pub greedy-P1 : total (paragraph (limits 1 6 6 1) (3 ∷ 2 ∷ 2 ∷ 5 ∷ [])) 1 (3 ∷ 4 ∷ []) ≡ 17
-unfolding sum line penalty charge paragraph sqd
+unfolding sum line penalty lines paragraph charge settings sqd
 greedy-P1 = refl

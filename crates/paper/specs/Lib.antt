@@ -1,4 +1,5 @@
 -- The definitions of document 01, in its order. Each stands under the sentence of 01 that it renders.
+pub mod Lines
 pub mod Paragraph
 pub mod Index
 pub mod Allowed

@@ -11,8 +11,10 @@ use Rattle.laws.specs.Table as Table
 use Rattle.laws.specs.Chosen.{Follows, next}
 use Rattle.paper.specs.declared.Limits.{Limits}
 use Rattle.paper.specs.declared.PageLimits.{PageLimits}
+use Rattle.paper.specs.Lines as Lines
+use Rattle.paper.specs.Lines.{admissible, charge, free, settings, tie}
 use Rattle.paper.specs.Paragraph as Paragraph
-use Rattle.paper.specs.Paragraph.{sum, line, admissible, penalty, charge, paragraph, tie}
+use Rattle.paper.specs.Paragraph.{sum, line, penalty, lines, paragraph}
 use Rattle.paper.specs.Index as Index
 use Rattle.paper.specs.Index.{gap, page, item, index}
 
@@ -69,7 +71,7 @@ abbrev pub Given : Asked → List ℕ → Outcome → Type 0
 Given (para lmin lopt lmax a) ws NONE = Best (paragraph (limits lmin lopt lmax a) ws) 1 none
 Given (para lmin lopt lmax a) ws (found v []) = ⊥
 Given (para lmin lopt lmax a) ws (found v (s ∷ js)) =
-    (s ≡ 1) × Sets (paragraph (limits lmin lopt lmax a) ws) (tie (limits lmin lopt lmax a) ws) 1 v js
+    (s ≡ 1) × Sets (paragraph (limits lmin lopt lmax a) ws) (tie (lines (limits lmin lopt lmax a) ws)) 1 v js
 Given (list lmin lmax) ws NONE = Best (index (pageLimits lmin lmax) ws) 0 none
 Given (list lmin lmax) ws (found v js) = Sets (index (pageLimits lmin lmax) ws) (λ i. largest) 0 v js
 
@@ -92,6 +94,6 @@ computed (list lmin lmax) ws = outcomeOf (Index.best (pageLimits lmin lmax) ws 0
 
 -- What is computed for the rows is what the table says.
 pub rows-computed : map (λ (r : Row). computed (r .asked) (r .lengths)) table ≡ map (λ (r : Row). r .outcome) table
-unfolding computed sum line admissible penalty charge paragraph sqd Paragraph.best Paragraph.chosenNext Paragraph.breaks Table.best next
-    gap page item index Index.best Index.chosenNext Index.boundaries
+unfolding computed sum line penalty lines paragraph sqd admissible charge free settings Lines.best Lines.chosenNext Lines.breaks
+    Paragraph.best Paragraph.chosenNext Paragraph.breaks Table.best next gap page item index Index.best Index.chosenNext Index.boundaries
 rows-computed = refl

@@ -4,24 +4,25 @@ use mathlib.Core.Bool.{Bool, true, false, not, _&&_, _||_}
 use mathlib.Core.List.{List, [], _∷_, reverse}
 use lib.Dec.{leb, ltb}
 use lib.ListN.{length}
-use Rattle.laws.specs.Cost.{Cost, has?, value}
+use Rattle.laws.specs.Number.{if}
+use Rattle.laws.specs.Cost.{Cost, none, some, has?, value}
 use Rattle.paper.specs.declared.Limits.{Limits}
 use Rattle.paper.specs.declared.Kind.the-variants.{Add, Pass, Drop, Pop}
 use Rattle.paper.specs.declared.Move.{Move}
-use Rattle.paper.specs.Paragraph.{line, penalty, best}
+use Rattle.paper.specs.Lines.{Lines, free}
+use Rattle.paper.specs.Paragraph.{line, lines, best}
 use Rattle.paper.specs.Moves.{move, Taken, still, moved, joined}
 
--- What the rules read: the limits, the penalty formula, Line from a start to a break, Line between two breaks, and the best of
--- each index.
+-- What the rules read: the paragraph's lines, A, Line between two breaks, and the best of each index, with what its break is charged joined
+-- to it.
 pub record Text : Type 0 where
-  pub limits : Limits
-  pub penalty : ℕ → ℕ
-  pub line : ℕ → ℕ → ℕ
+  pub lines : Lines
+  pub a : ℕ
   pub apart : ℕ → ℕ → ℕ
   pub best : ℕ → Cost
 
 unfoldable pub textOf : Limits → List ℕ → Text
-textOf l ws = record { limits = l; penalty = penalty l; line = line ws; apart = line ws; best = best l ws }
+textOf l ws = record { lines = lines l ws; a = l .a; apart = line ws; best = best l ws }
 
 -- the number of an index that has a setting
 abbrev pub bestOf : Text → ℕ → ℕ
@@ -29,18 +30,18 @@ bestOf t j = value (t .best j)
 
 -- "F(i, j) = best of j + A·(Line(i, j) - lopt)², also for j = n+1."
 unfoldable pub F : Text → ℕ → ℕ → ℕ
-F t i j = bestOf t j + t .penalty (t .line i j)
+F t i j = bestOf t j + t .lines .penalty (t .lines .line i j)
 
 -- "best k + p(lmax - Line(k, l)) ≥ best j + p(lmax - Line(j, l))", p being the penalty formula
 unfoldable pub edge : Text → ℕ → ℕ → ℕ → Bool
 edge t j k l =
-    leb (bestOf t j + t .penalty (t .limits .lmax - t .apart j l))
-    (bestOf t k + t .penalty (t .limits .lmax - t .apart k l))
+    leb (bestOf t j + t .lines .penalty (t .lines .lmax - t .apart j l))
+    (bestOf t k + t .lines .penalty (t .lines .lmax - t .apart k l))
 
 -- "Line(j, l)·best k ≥ Line(j, k)·best l + Line(k, l)·best j + A·Line(j, k)·Line(j, l)·Line(k, l)"
 unfoldable pub chord : Text → ℕ → ℕ → ℕ → Bool
 chord t j k l =
-    leb (t .apart j k * bestOf t l + t .apart k l * bestOf t j + t .limits .a * (t .apart j k * t .apart j l * t .apart k l))
+    leb (t .apart j k * bestOf t l + t .apart k l * bestOf t j + t .a * (t .apart j k * t .apart j l * t .apart k l))
     (t .apart j l * bestOf t k)
 
 -- "With j the candidate, k the rear and l its neighbour, k is bridged when both hold"
@@ -51,7 +52,7 @@ bridged t j k l = edge t j k l && chord t j k l
 -- "1. While the front has Line > lmax: Drop it."
 unfoldable pub dropLong : Text → ℕ → List ℕ → Taken (List ℕ)
 dropLong t i [] = still []
-dropLong t i (j ∷ q) = elim (ltb (t .limits .lmax) (t .line i j)) [ true ↦ moved (move Drop j) (dropLong t i q) | false ↦ still (j ∷ q) ]
+dropLong t i (j ∷ q) = elim (ltb (t .lines .lmax) (t .lines .line i j)) [ true ↦ moved (move Drop j) (dropLong t i q) | false ↦ still (j ∷ q) ]
 
 -- "Pop the rear while F(i, candidate) ≤ F(i, rear)", on the queue from rear to front
 unfoldable pub popWorse : Text → ℕ → ℕ → List ℕ → Taken (List ℕ)
@@ -79,13 +80,13 @@ pub record Standing : Type 0 where
 -- "if it is above lmax, or the candidate has no setting, Pass it. Otherwise" pop and add
 unfoldable pub consider : Text → ℕ → ℕ → List ℕ → Taken (List ℕ)
 consider t i j q =
-    elim (ltb (t .limits .lmax) (t .line i j) || not (has? (t .best j))) [ true ↦ moved (move Pass j) (still q) | false ↦ add t i j q ]
+    elim (ltb (t .lines .lmax) (t .lines .line i j) || not (has? (t .best j))) [ true ↦ moved (move Pass j) (still q) | false ↦ add t i j q ]
 
 -- "2. While Line(i, candidate) ≥ lmin: [..] The candidate then falls by one."
 unfoldable pub candidates : Text → ℕ → ℕ → List ℕ → Taken Standing
 candidates t i zero q = still (record { queue = q; candidate = zero })
 candidates t i (suc c) q =
-    elim (leb (t .limits .lmin) (t .line i (suc c))) [
+    elim (leb (t .lines .lmin) (t .lines .line i (suc c))) [
       | true ↦ joined (consider t i (suc c) q) (candidates t i c)
       | false ↦ still (record { queue = q; candidate = suc c })
     ]
@@ -117,7 +118,19 @@ queueAt l ws i = atStart (textOf l ws) i (afterStarts (textOf l ws) (length ws) 
 unfoldable pub queueMoves : Limits → List ℕ → List Move
 queueMoves l ws = afterStarts (textOf l ws) (length ws) (length ws) .moves
 
--- "Then the start takes n+1 if Line(i, n+1) ≤ lopt; otherwise the front is the chooser; with an empty queue there is no setting."
-abbrev pub front : List ℕ → ℕ
-front [] = 0
-front (j ∷ q) = j
+-- ---- "Then the start takes n+1 if Line(i, n+1) ≤ lopt; otherwise the front is the chooser; with an empty queue there is no setting."
+abbrev pub frontBest : Text → ℕ → List ℕ → Cost
+frontBest t i [] = none
+frontBest t i (j ∷ q) = some (F t i j)
+
+abbrev pub frontNext : List ℕ → ℕ
+frontNext [] = 0
+frontNext (j ∷ q) = j
+
+-- n+1 is taken at no cost; a rest that is shorter than the least last length has no setting
+unfoldable pub takenBest : Text → ℕ → List ℕ → Cost
+takenBest t i q = if (free (t .lines) i) (some 0) (if (leb (t .lines .line i (t .lines .end)) (t .lines .lopt)) none (frontBest t i q))
+
+unfoldable pub takenNext : Text → ℕ → List ℕ → ℕ
+takenNext t i q =
+    if (free (t .lines) i) (t .lines .end) (if (leb (t .lines .line i (t .lines .end)) (t .lines .lopt)) 0 (frontNext q))
