@@ -8,43 +8,49 @@ use mathlib.Core.List.{List, [], _∷_}
 use native.Mathlib.Omega.{arith}
 use lib.Dec.{T, leb, leb→le, nleb→lt}
 use Rattle.laws.specs.Number.{both}
-use Rattle.laws.specs.Cost.{Cost, none, some, _≼_, leq, leq→≼, ≼→leq, ≼-refl, ≼-antisym, some-inj, Has, before, before-has, Reached}
-use Rattle.laws.specs.Search.{Tie, Ahead, Found, Missing, pick, pick-is, ahead-antisym}
+use Rattle.laws.specs.Cost.{Cost, none, some, _≼_, leq, leq→≼, ≼→leq, ≼-refl, ≼-antisym, some-inj, Has, before, before-has}
+use Rattle.laws.specs.Search.{Tie, Ahead, Found, pick, pick-is, ahead-antisym}
 use Rattle.laws.specs.Setting.{Problem, Monotone, Choice, Admissible, admissible-early, total, LeastTotal, through, Step}
 use Rattle.laws.specs.Table.{best, best-steps, best-end, best-is}
 
--- j is the chosen next of start i: i has a setting, the line to j gives the best, and the tie rule takes j before every
--- other that gives it
-pub record Next (p : Problem) (tie : Tie) (i j : ℕ) : Type 0 where
-  pub has : Has (best p i)
+-- j is the chosen next of start i, where c is the best of i and b has the costs of the later starts: i has a setting, the line to j gives
+-- the best, and the tie rule takes j before every other that gives it
+pub record NextOver (p : Problem) (b : ℕ → Cost) (c : Cost) (tie : Tie) (i j : ℕ) : Type 0 where
+  pub has : Has c
   pub choice : Choice p i j
-  pub gives : through p (best p) i j ≡ best p i
-  pub ahead : (k : ℕ) → Choice p i k → through p (best p) i k ≡ best p i → Ahead tie j k
+  pub gives : through p b i j ≡ c
+  pub ahead : (k : ℕ) → Choice p i k → through p b i k ≡ c → Ahead tie j k
 
-pub next-unique : {p : Problem} {tie : Tie} {i j k : ℕ} → Next p tie i j → Next p tie i k → j ≡ k
+abbrev pub Next : Problem → Tie → ℕ → ℕ → Type 0
+Next p tie i j = NextOver p (best p) (best p i) tie i j
+
+pub next-unique : {p : Problem} {b : ℕ → Cost} {c : Cost} {tie : Tie} {i j k : ℕ} → NextOver p b c tie i j → NextOver p b c tie i k → j ≡ k
 next-unique {tie = tie} {j = j} {k = k} m n = ahead-antisym tie (m .ahead k (n .choice) (n .gives)) (n .ahead j (m .choice) (m .gives))
 
 -- ---- computed
 -- the line to j is admissible, and costs no more than the best
-abbrev pub gives? : Problem → ℕ → ℕ → Bool
-gives? p i j = p .fits i j && leq (through p (best p) i j) (best p i)
+abbrev pub gives? : Problem → (ℕ → Cost) → Cost → ℕ → ℕ → Bool
+gives? p b c i j = p .fits i j && leq (through p b i j) c
 
 -- the chosen next; 0 where start i has no setting
-abbrev pub nextOf : Problem → Tie → Cost → ℕ → ℕ
-nextOf p tie none i = 0
-nextOf p tie (some v) i = pick tie (gives? p i) (suc i) (p .end - i)
+abbrev pub nextOver : Problem → (ℕ → Cost) → Cost → Tie → ℕ → ℕ
+nextOver p b none tie i = 0
+nextOver p b (some v) tie i = pick tie (gives? p b (some v) i) (suc i) (p .end - i)
 
 unfoldable pub next : Problem → Tie → ℕ → ℕ
-next p tie i = nextOf p tie (best p i) i
+next p tie i = nextOver p (best p) (best p i) tie i
 
-module _ (p : Problem) (tie : Tie) (i : ℕ) (early : i < p .end) where
-  gives-choice : (j : ℕ) → i < j → j ≤ p .end → T (gives? p i j) → Choice p i j × (through p (best p) i j ≼ best p i)
+-- c is the least over the choices at i
+module _ (p : Problem) (b : ℕ → Cost) (tie : Tie) (i : ℕ) (c : Cost) (step : Step p b i c) where
+  gives-choice : (j : ℕ) → i < j → j ≤ p .end → T (gives? p b c i j) → Choice p i j × (through p b i j ≼ c)
   gives-choice j lt le t =
-      let h = both (p .fits i j) (leq (through p (best p) i j) (best p i)) t in
-      (record { rises = lt; within = le; admissible = h .0 }, leq→≼ (through p (best p) i j) (best p i) (h .1))
+      let h = both (p .fits i j) (leq (through p b i j) c) t in
+      (record { rises = lt; within = le; admissible = h .0 }, leq→≼ (through p b i j) c (h .1))
 
-  choice-gives : (j : ℕ) → Choice p i j → through p (best p) i j ≼ best p i → T (gives? p i j)
-  choice-gives j ch le = go (p .fits i j) (leq (through p (best p) i j) (best p i)) (ch .admissible) (≼→leq (through p (best p) i j) (best p i) le)
+  choice-gives : (j : ℕ) → Choice p i j → through p b i j ≡ c → T (gives? p b c i j)
+  choice-gives j ch e =
+      go (p .fits i j) (leq (through p b i j) c) (ch .admissible)
+      (≼→leq (through p b i j) c (subst (λ (z : Cost). z ≼ c) (sym e) (≼-refl c)))
     where
       go : (a b : Bool) → T a → T b → T (a && b)
       go true true s t = tt
@@ -52,39 +58,41 @@ module _ (p : Problem) (tie : Tie) (i : ℕ) (early : i < p .end) where
       go false b s t = absurd s
 
   choice-in : (j : ℕ) → Choice p i j → j < suc i + (p .end - i)
-  choice-in j ch = omega (arith, ch .within)
+  choice-in j ch = omega (arith, ch .within, ch .rises)
 
-  found : Has (best p i) → (j : ℕ) → Found tie (gives? p i) (suc i) (p .end - i) j → Next p tie i j
+  found : Has c → (j : ℕ) → Found tie (gives? p b c i) (suc i) (p .end - i) j → NextOver p b c tie i j
   found has j f =
-      let g = gives-choice j (f .from) (omega (arith, f .below)) (f .passes) in
+      let g = gives-choice j (f .from) (omega (arith, f .below, f .from)) (f .passes) in
       record {
         has = has;
         choice = g .0;
-        gives = ≼-antisym (through p (best p) i j) (best p i) (g .1) (best-steps p i early .low j (g .0));
-        ahead = λ k ch e. f .ahead k (ch .rises) (choice-in k ch) (choice-gives k ch (subst (λ (z : Cost). z ≼ best p i) (sym e) (≼-refl (best p i))));
+        gives = ≼-antisym (through p b i j) c (g .1) (step .low j (g .0));
+        ahead = λ k ch e. f .ahead k (ch .rises) (choice-in k ch) (choice-gives k ch e);
       }
 
-  -- a start with a best has a choice that reaches it
-  missing : (v j : ℕ) → Reached (Choice p i) (through p (best p) i) (some v) → best p i ≡ some v → ¬ Missing (gives? p i) (suc i) (p .end - i) j
-  missing v j r e m =
-      m .fails (r .0) (r .1 .rises) (choice-in (r .0) (r .1))
-      (choice-gives (r .0) (r .1) (subst (λ (z : Cost). z ≼ best p i) (e ∙ sym (r .2)) (≼-refl (best p i))))
+-- What is computed is the chosen next: a start with a best has a choice that reaches it.
+pub next-over : (p : Problem) (b : ℕ → Cost) (tie : Tie) (i : ℕ) (c : Cost) → Step p b i c → Has c →
+    NextOver p b c tie i (nextOver p b c tie i)
+next-over p b tie i none step h = absurd h
+next-over p b tie i (some v) step h =
+    ⊎-elim
+    (λ f. found p b tie i (some v) step tt j f)
+    (λ m. absurd (m .fails k (ch .rises) (choice-in p b tie i (some v) step k ch) (choice-gives p b tie i (some v) step k ch (step .reached .2))))
+    (pick-is tie (gives? p b (some v) i) (suc i) (p .end - i))
+  where
+    j : ℕ
+    j = pick tie (gives? p b (some v) i) (suc i) (p .end - i)
 
-  reaching : (c : Cost) → best p i ≡ c → Step p (best p) i c
-  reaching c e = subst (Step p (best p) i) e (best-steps p i early)
+    k : ℕ
+    k = step .reached .0
 
-  next-of : (c : Cost) → best p i ≡ c → Has c → Next p tie i (nextOf p tie c i)
-  next-of none e h = absurd h
-  next-of (some v) e h =
-      ⊎-elim
-      (λ f. found (subst Has (sym e) tt) (pick tie (gives? p i) (suc i) (p .end - i)) f)
-      (λ m. absurd (missing v (pick tie (gives? p i) (suc i) (p .end - i)) (reaching (some v) e .reached) e m))
-      (pick-is tie (gives? p i) (suc i) (p .end - i))
+    ch : Choice p i k
+    ch = step .reached .1
 
-  -- what is computed is the chosen next
+module _ (p : Problem) (tie : Tie) (i : ℕ) (early : i < p .end) where
   pub next-is : Has (best p i) → Next p tie i (next p tie i)
   unfolding next
-  next-is h = next-of (best p i) refl h
+  next-is h = next-over p (best p) tie i (best p i) (best-steps p i early) h
 
   pub next-none : best p i ≡ none → next p tie i ≡ 0
   unfolding next

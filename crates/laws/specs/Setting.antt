@@ -9,7 +9,7 @@ use native.Mathlib.Nat.{mul-le-mul-right}
 use native.Mathlib.Omega.{arith}
 use lib.Dec.{T}
 use Rattle.laws.specs.Number.{split}
-use Rattle.laws.specs.Cost.{Cost, none, some, _≼_, ≼-refl, ≼-trans, some-inj, before, before-mono, Reached, Least, least-unique}
+use Rattle.laws.specs.Cost.{Cost, none, some, _≼_, ≼-refl, ≼-trans, some-inj, some-not-none, before, before-mono, Reached, Least, least-unique}
 
 -- A line goes from a start up to a later start or to the end. `fits` says which lines are admissible, `cost` what one
 -- costs, `join` how a line's cost joins the total of the rest, `done` what is left to pay at the end.
@@ -69,51 +69,54 @@ through p b i j = before (p .join) (p .cost i j) (b j)
 abbrev pub Step : Problem → (ℕ → Cost) → ℕ → Cost → Type 0
 Step p b i c = Least (Choice p i) (through p b i) c
 
-module _ (p : Problem) (mono : Monotone p) (b : ℕ → Cost) (i : ℕ)
-    (later : (j : ℕ) → Choice p i j → Best p j (b j)) where
-  step-low : (c : Cost) → Step p b i c → (js : List ℕ) → Admissible p i js → c ≼ some (total p i js)
-  step-low c s [] h =
-      subst (λ (z : Cost). c ≼ before (p .join) (p .cost i (p .end)) z) (later (p .end) h .at-end refl) (s .low (p .end) h)
-  step-low c s (j ∷ js) h =
-      ≼-trans c (through p b i j) (some (total p i (j ∷ js)))
-      (s .low j (h .0))
-      (before-mono (p .join) mono (p .cost i j) (b j) (some (total p j js))
-      (later j (h .0) .early (admissible-early p j js (h .1)) .low js (h .1)))
+-- ---- A first line, and then a rest: `Rest j` says which later starts there are after j, and `paid j` what they cost.
+module _ (p : Problem) (Rest : ℕ → List ℕ → Type 0) (paid : ℕ → List ℕ → ℕ) where
+  abbrev pub First : ℕ → List ℕ → Type 0
+  First i [] = Choice p i (p .end)
+  First i (j ∷ js) = Choice p i j × Rest j js
 
-  Reaches : Cost → Type 0
-  Reaches c = Reached (Admissible p i) (λ (js : List ℕ). some (total p i js)) c
+  abbrev pub firstTotal : ℕ → List ℕ → ℕ
+  firstTotal i [] = p .join (p .cost i (p .end)) (p .done)
+  firstTotal i (j ∷ js) = p .join (p .cost i j) (paid j js)
 
-  last-reached : (t j : ℕ) → Choice p i j → j ≡ p .end → through p b i j ≡ some t → Reaches (some t)
-  unfolding Reaches
-  last-reached t j ch e w =
-      let f : b j ≡ some (p .done) = later j ch .at-end e in
-      ([], subst (Choice p i) e ch, ap (λ (k : ℕ). some (p .join (p .cost i k) (p .done))) (sym e) ∙ sym (ap (λ (a : Cost). before (p .join) (p .cost i j) a) f) ∙ w)
+  -- The least over the choices is the least over the settings, where b has the least of each rest.
+  module _ (mono : Monotone p) (b : ℕ → Cost) (i : ℕ) (ends : b (p .end) ≡ some (p .done))
+      (early : (j : ℕ) (js : List ℕ) → Rest j js → j < p .end)
+      (later : (j : ℕ) → Choice p i j → j < p .end → Least (Rest j) (λ (js : List ℕ). some (paid j js)) (b j)) where
+    abbrev Reaches : Cost → Type 0
+    Reaches c = Reached (First i) (λ (js : List ℕ). some (firstTotal i js)) c
 
-  line-reached : (t j : ℕ) → Choice p i j → (a : Cost) → Reached (Admissible p j) (λ (js : List ℕ). some (total p j js)) a →
-      before (p .join) (p .cost i j) a ≡ some t → Reaches (some t)
-  unfolding Reaches
-  line-reached t j ch none r e = absurd (let z : _≡_ {A = ℕ} 0 1 = cc in omega arith)
-  line-reached t j ch (some u) r e =
-      (j ∷ r .0, (ch, r .1), ap (λ (n : ℕ). some (p .join (p .cost i j) n)) (some-inj (r .2)) ∙ e)
+    step-low : (c : Cost) → Step p b i c → (js : List ℕ) → First i js → c ≼ some (firstTotal i js)
+    step-low c s [] h =
+        subst (λ (z : Cost). c ≼ before (p .join) (p .cost i (p .end)) z) ends (s .low (p .end) h)
+    step-low c s (j ∷ js) h =
+        ≼-trans c (through p b i j) (some (firstTotal i (j ∷ js)))
+        (s .low j (h .0))
+        (before-mono (p .join) mono (p .cost i j) (b j) (some (paid j js)) (later j (h .0) (early j js (h .1)) .low js (h .1)))
 
-  step-reached : (c : Cost) → Step p b i c → Reaches c
-  unfolding Reaches
-  step-reached none s = tt
-  step-reached (some t) s =
-      let j : ℕ = s .reached .0 in
-      let ch : Choice p i j = s .reached .1 in
-      ⊎-elim
-      (λ g. last-reached t j ch (omega (arith, ch .within)) (s .reached .2))
-      (λ g. line-reached t j ch (b j) (later j ch .early g .reached) (s .reached .2))
-      (split (p .end) j)
+    last-reached : (t j : ℕ) → Choice p i j → j ≡ p .end → through p b i j ≡ some t → Reaches (some t)
+    last-reached t j ch e w =
+        let f : through p b i (p .end) ≡ some t = subst (λ (k : ℕ). through p b i k ≡ some t) e w in
+        ([], subst (Choice p i) e ch, sym (ap (λ (a : Cost). before (p .join) (p .cost i (p .end)) a) ends) ∙ f)
 
-  -- The least over the choices is the least over the settings.
-  pub best-step : (c : Cost) → i < p .end → Step p b i c → Best p i c
-  unfolding Reaches
-  best-step c g s = record {
-    at-end = λ e. absurd (omega arith);
-    early = λ h. record { low = step-low c s; reached = step-reached c s };
-  }
+    line-reached : (t j : ℕ) → Choice p i j → (a : Cost) → Reached (Rest j) (λ (js : List ℕ). some (paid j js)) a →
+        before (p .join) (p .cost i j) a ≡ some t → Reaches (some t)
+    line-reached t j ch none r e = absurd (some-not-none (sym e))
+    line-reached t j ch (some u) r e =
+        (j ∷ r .0, (ch, r .1), ap (λ (n : ℕ). some (p .join (p .cost i j) n)) (some-inj (r .2)) ∙ e)
+
+    step-reached : (c : Cost) → Step p b i c → Reaches c
+    step-reached none s = tt
+    step-reached (some t) s =
+        let j : ℕ = s .reached .0 in
+        let ch : Choice p i j = s .reached .1 in
+        ⊎-elim
+        (λ g. last-reached t j ch (omega (arith, ch .within)) (s .reached .2))
+        (λ g. line-reached t j ch (b j) (later j ch g .reached) (s .reached .2))
+        (split (p .end) j)
+
+    pub best-step : (c : Cost) → Step p b i c → Least (First i) (λ (js : List ℕ). some (firstTotal i js)) c
+    best-step c s = record { low = step-low c s; reached = step-reached c s }
 
 -- A table that satisfies Bellman's equation has the best of every start.
 module _ (p : Problem) (mono : Monotone p) (b : ℕ → Cost) (ends : b (p .end) ≡ some (p .done))
@@ -121,12 +124,32 @@ module _ (p : Problem) (mono : Monotone p) (b : ℕ → Cost) (ends : b (p .end)
   at-the-end : (i : ℕ) → p .end ≡ i → Best p i (b i)
   at-the-end i e = rw (← e, ends) (best-at-end p)
 
+  -- a setting from i is a first line and a setting of the rest
+  same-least : (i : ℕ) → Least (First p (Admissible p) (total p) i) (λ (js : List ℕ). some (firstTotal p (Admissible p) (total p) i js)) (b i) →
+      LeastTotal p i (b i)
+  same-least i l = record { low = low; reached = reached (b i) (l .reached) }
+    where
+      low : (js : List ℕ) → Admissible p i js → b i ≼ some (total p i js)
+      low [] h = l .low [] h
+      low (j ∷ js) h = l .low (j ∷ js) h
+
+      reached : (c : Cost) → Reached (First p (Admissible p) (total p) i) (λ (js : List ℕ). some (firstTotal p (Admissible p) (total p) i js)) c →
+          Reached (Admissible p i) (λ (js : List ℕ). some (total p i js)) c
+      reached none r = tt
+      reached (some t) ([], h, e) = ([], h, e)
+      reached (some t) (j ∷ js, h, e) = (j ∷ js, h, e)
+
   bellman-from : (d i : ℕ) → p .end ≤ i + d → i ≤ p .end → Best p i (b i)
   bellman-from zero i h k = at-the-end i (omega arith)
   bellman-from (suc d) i h k =
       ⊎-elim
       (λ g. at-the-end i (omega arith))
-      (λ g. best-step p mono b i (λ j c. bellman-from d j (omega (arith, c .rises)) (c .within)) (b i) g (steps i g))
+      (λ g. record {
+        at-end = λ e. absurd (omega arith);
+        early = λ f. same-least i
+            (best-step p (Admissible p) (total p) mono b i ends (admissible-early p)
+            (λ j ch e. bellman-from d j (omega (arith, ch .rises)) (ch .within) .early e) (b i) (steps i g));
+      })
       (split (p .end) i)
 
   pub bellman : (i : ℕ) → i ≤ p .end → Best p i (b i)
@@ -139,33 +162,48 @@ sum-monotone c m n h = omega arith
 pub max-monotone : (c m n : ℕ) → m ≤ n → max c m ≤ max c n
 max-monotone c m n h = omega arith
 
--- ---- Wider admissibility never raises the least.
-module _ (end : ℕ) (narrow wide : ℕ → ℕ → Bool) (cost join : ℕ → ℕ → ℕ) (done : ℕ)
-    (widens : (i j : ℕ) → T (narrow i j) → T (wide i j)) where
-  abbrev with : (ℕ → ℕ → Bool) → Problem
-  with f = record { end = end; fits = f; cost = cost; join = join; done = done }
+-- ---- Wider admissibility never raises the least: q admits every line that p does, and there the two cost the same.
+pub record Wider (p q : Problem) : Type 0 where
+  pub ends : p .end ≡ q .end
+  pub fits : (i j : ℕ) → T (p .fits i j) → T (q .fits i j)
+  pub cost : (i j : ℕ) → T (p .fits i j) → q .cost i j ≡ p .cost i j
+  pub join : (c n : ℕ) → q .join c n ≡ p .join c n
+  pub done : q .done ≡ p .done
 
-  wider-admissible : (i : ℕ) (js : List ℕ) → Admissible (with narrow) i js → Admissible (with wide) i js
-  wider-admissible i [] h = record { rises = h .rises; within = h .within; admissible = widens i end (h .admissible) }
-  wider-admissible i (j ∷ js) h =
-      (record { rises = h .0 .rises; within = h .0 .within; admissible = widens i j (h .0 .admissible) }, wider-admissible j js (h .1))
+module _ (p q : Problem) (w : Wider p q) where
+  wider-choice : (i j : ℕ) → Choice p i j → Choice q i j
+  wider-choice i j h =
+      record { rises = h .rises; within = omega (arith, h .within, w .ends); admissible = w .fits i j (h .admissible) }
 
-  total-same : (i : ℕ) (js : List ℕ) → total (with narrow) i js ≡ total (with wide) i js
-  total-same i [] = refl
-  total-same i (j ∷ js) = ap (join (cost i j)) (total-same j js)
+  wider-admissible : (i : ℕ) (js : List ℕ) → Admissible p i js → Admissible q i js
+  wider-admissible i [] h = subst (Choice q i) (w .ends) (wider-choice i (p .end) h)
+  wider-admissible i (j ∷ js) h = (wider-choice i j (h .0), wider-admissible j js (h .1))
 
-  below : (i : ℕ) (c d : Cost) → LeastTotal (with narrow) i c → LeastTotal (with wide) i d → d ≼ c
-  below i none d p q = tt
-  below i (some t) d p q =
-      subst (λ (z : Cost). d ≼ z) (ap some (sym (total-same i (p .reached .0))) ∙ p .reached .2)
-      (q .low (p .reached .0) (wider-admissible i (p .reached .0) (p .reached .1)))
+  total-same : (i : ℕ) (js : List ℕ) → Admissible p i js → total q i js ≡ total p i js
+  total-same i [] h =
+      ap (λ (e : ℕ). q .join (q .cost i e) (q .done)) (sym (w .ends))
+      ∙ ap (λ (c : ℕ). q .join c (q .done)) (w .cost i (p .end) (h .admissible))
+      ∙ ap (q .join (p .cost i (p .end))) (w .done)
+      ∙ w .join (p .cost i (p .end)) (p .done)
+  total-same i (j ∷ js) h =
+      ap (λ (c : ℕ). q .join c (total q j js)) (w .cost i j (h .0 .admissible))
+      ∙ ap (q .join (p .cost i j)) (total-same j js (h .1))
+      ∙ w .join (p .cost i j) (total p j js)
 
-  pub wider : (i : ℕ) (c d : Cost) → i ≤ end → Best (with narrow) i c → Best (with wide) i d → d ≼ c
-  wider i c d h p q =
+  below : (i : ℕ) (c d : Cost) → LeastTotal p i c → LeastTotal q i d → d ≼ c
+  below i none d u v = tt
+  below i (some t) d u v =
+      let js : List ℕ = u .reached .0 in
+      let h : Admissible p i js = u .reached .1 in
+      subst (λ (z : Cost). d ≼ z) (ap some (total-same i js h) ∙ u .reached .2) (v .low js (wider-admissible i js h))
+
+  pub wider : (i : ℕ) (c d : Cost) → i ≤ p .end → Best p i c → Best q i d → d ≼ c
+  wider i c d h u v =
       ⊎-elim
-      (λ g. let e : i ≡ end = omega arith in rw (p .at-end e, q .at-end e) (≼-refl (some done)))
-      (λ g. below i c d (p .early g) (q .early g))
-      (split end i)
+      (λ g. let e : i ≡ p .end = omega arith in
+      rw (u .at-end e, v .at-end (e ∙ w .ends), w .done) (≼-refl (some (p .done))))
+      (λ g. below i c d (u .early g) (v .early (omega (arith, w .ends))))
+      (split (p .end) i)
 
 -- ---- A bound of the totals: at most C for each line, and at most as many lines as starts.
 module _ (p : Problem) (C : ℕ) (each : (i j : ℕ) → Choice p i j → p .cost i j ≤ C)

@@ -7,14 +7,11 @@ use mathlib.Core.List.{List, reverse}
 use native.Mathlib.Omega.{arith}
 use lib.ListN.{length, length-append, length-reverse}
 use Rattle.laws.specs.Number.{split}
-use Rattle.paper.specs.declared.Limits.{Limits}
 use Rattle.paper.specs.declared.Kind.the-variants.{Drop, Pop}
-use Rattle.paper.specs.Allowed.{Passed, limitsHold}
 use Rattle.paper.specs.Moves.{Taken}
-use Rattle.paper.specs.QueueRules.{Text, Standing, textOf, dropLong, popWorse, popBridged, add, consider, candidates, dropWorse, settled, atStart, afterStarts, queueMoves}
+use Rattle.paper.specs.QueueRules.{Text, Standing, dropLong, popWorse, popBridged, add, consider, candidates, dropWorse, settled, atStart, afterStarts}
 use Rattle.queue_theory.specs.Turns.{candidates-more, candidates-stop, consider-gives}
 use Rattle.queue_theory.specs.Leaves.{leaves-length, dropLong-leaves, popWorse-leaves, popBridged-leaves, dropWorse-leaves}
-use Rattle.queue_theory.specs.Ready.{ready}
 
 module _ (t : Text) where
   -- ---- rule by rule: the moves, with who stands, against who stood
@@ -67,7 +64,7 @@ module _ (t : Text) where
       rw (candidates-more t i c (suc c) q (omega arith) reach)
       (simp length-append (omega (arith, consider-count i (suc c) q, candidates-count i c (r .stands)))))
       (λ short. rw (candidates-stop t i (suc c) q short) (omega arith))
-      (split (t .limits .lmin) (t .line i (suc c)))
+      (split (t .lines .lmin) (t .lines .line i (suc c)))
 
   -- and for one member
   pub candidates-room : (i c : ℕ) (q : List ℕ) →
@@ -79,7 +76,7 @@ module _ (t : Text) where
       (λ reach. rw (candidates-more t i c (suc c) q (omega arith) reach)
       (omega (arith, consider-room i (suc c) q, candidates-room i c (consider t i (suc c) q .stands))))
       (λ short. rw (candidates-stop t i (suc c) q short) (omega arith))
-      (split (t .limits .lmin) (t .line i (suc c)))
+      (split (t .lines .lmin) (t .lines .line i (suc c)))
 
   pub atStart-count : (i : ℕ) (s : Standing) →
       length (atStart t i s .moves) + length (atStart t i s .stands .queue) + 2 * atStart t i s .stands .candidate ≤ length (s .queue) + 2 * s .candidate
@@ -96,14 +93,3 @@ module _ (t : Text) where
   afterStarts-count n (suc d) =
       let a = afterStarts t n d in
       simp length-append (omega (arith, afterStarts-count n d, atStart-count (n - d) (a .stands)))
-
--- ---- the paragraph
-module _ (l : Limits) (ws : List ℕ) (passed : Passed (limitsHold l) ws) where
-  -- the moves of the first d starts
-  pub moves-so-far : (d : ℕ) → d ≤ length ws → length (afterStarts (textOf l ws) (length ws) d .moves) ≤ 2 * length ws
-  moves-so-far d h = omega (arith, afterStarts-count (textOf l ws) (length ws) d, ready l ws passed d h .held .near)
-
-  -- Demand 3: at most 2n moves.
-  pub at-most-2n : length (queueMoves l ws) ≤ 2 * length ws
-  unfolding queueMoves
-  at-most-2n = moves-so-far (length ws) (omega arith)

@@ -1,18 +1,18 @@
 -- Rules 1 and 3 and both pops take members off one end of the queue: their moves name what they take, and what stands is the
 -- rest. So what holds of every member, or of each two, holds still. For any text. Assumes nothing.
-use Prim.Native.Nat.{ℕ, _+_}
+use Prim.Native.Nat.{ℕ, _+_, _<_}
 use mathlib.Core.Path.{_≡_, refl, ap}
 use mathlib.Core.Logic.{⊎-elim}
-use mathlib.Core.List.{List, [], _∷_, _++_, map}
+use mathlib.Core.List.{List, [], _∷_, _++_, map, reverse}
 use native.Mathlib.Omega.{arith}
 use lib.ListN.{length, length-append, length-map}
 use Rattle.laws.specs.Number.{split, tested}
-use Rattle.laws.specs.Members.{Every, every-right, Pairs, pairs-right}
+use Rattle.laws.specs.Members.{Every, every-right, every-reverse, Pairs, pairs-right, pairs-reverse, Falls, Rises}
 use Rattle.paper.specs.declared.Kind.{Kind}
 use Rattle.paper.specs.declared.Kind.the-variants.{Drop, Pop}
 use Rattle.paper.specs.declared.Move.{Move}
 use Rattle.paper.specs.Moves.{Taken, move, moved, still}
-use Rattle.paper.specs.QueueRules.{Text, F, bridged, dropLong, popWorse, popBridged, dropWorse}
+use Rattle.paper.specs.QueueRules.{Text, F, bridged, dropLong, popWorse, popBridged, add, dropWorse}
 use Rattle.queue_theory.specs.Turns.{dropLong-more, dropLong-stop, popWorse-more, popWorse-stop, popBridged-more, popBridged-stop, dropWorse-more, dropWorse-stop}
 
 -- a rule took `gone` off the end at which q is listed, one move each
@@ -39,7 +39,7 @@ module _ (t : Text) where
       ⊎-elim
       (λ h. rw (dropLong-stop t i j q h) (leaves-all Drop (j ∷ q)))
       (λ h. rw (dropLong-more t i j q h) (leaves-more Drop j q (dropLong t i q) (dropLong-leaves i q)))
-      (split (t .line i j) (t .limits .lmax))
+      (split (t .lines .line i j) (t .lines .lmax))
 
   pub popWorse-leaves : (i j : ℕ) (q : List ℕ) → Leaves Pop q (popWorse t i j q)
   unfolding popWorse
@@ -109,3 +109,28 @@ module _ (t : Text) (R : ℕ → ℕ → Type 0) where
 
   pub dropWorse-pairs : (i : ℕ) (q : List ℕ) → Pairs R q → Pairs R (dropWorse t i q .stands)
   dropWorse-pairs i q = leaves-pairs Drop q (dropWorse t i q) (dropWorse-leaves t i q) R
+
+-- ---- the same of a candidate that is added
+module _ (t : Text) (i j : ℕ) (q : List ℕ) where
+  -- the queue from rear to front, after both pops
+  popped : List ℕ
+  popped = popBridged t j (popWorse t i j (reverse q) .stands) .stands
+
+  popped-every : (P : ℕ → Type 0) → Every P q → Every P popped
+  unfolding popped
+  popped-every P h =
+      popBridged-every t P j (popWorse t i j (reverse q) .stands) (popWorse-every t P i j (reverse q) (every-reverse P q h))
+
+  popped-rises : Falls q → Rises popped
+  unfolding popped
+  popped-rises h =
+      popBridged-pairs t (λ (a b : ℕ). a < b) j (popWorse t i j (reverse q) .stands)
+      (popWorse-pairs t (λ (a b : ℕ). a < b) i j (reverse q) (pairs-reverse (λ (a b : ℕ). b < a) q h))
+
+  pub add-every : (P : ℕ → Type 0) → P j → Every P q → Every P (add t i j q .stands)
+  unfolding add popped
+  add-every P new h = every-reverse P (j ∷ popped) (new, popped-every P h)
+
+  pub add-falls : Every (λ (k : ℕ). j < k) q → Falls q → Falls (add t i j q .stands)
+  unfolding add popped
+  add-falls below h = pairs-reverse (λ (a b : ℕ). a < b) (j ∷ popped) (popped-every (λ (k : ℕ). j < k) below, popped-rises h)

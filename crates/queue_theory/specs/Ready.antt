@@ -44,31 +44,6 @@ pub record Ready (l : Limits) (ws : List ℕ) (i : ℕ) (s : Standing) : Type 0 
   pub held : Held l ws (i + 1) (s .candidate) (s .queue)
   pub short : line ws (i + 1) (s .candidate) < l .lmin
 
--- ---- the rules on every member, and on the order, for any text
-module _ (t : Text) (i j : ℕ) (q : List ℕ) where
-  -- the queue from rear to front, after both pops
-  popped : List ℕ
-  popped = popBridged t j (popWorse t i j (reverse q) .stands) .stands
-
-  popped-every : (P : ℕ → Type 0) → Every P q → Every P popped
-  unfolding popped
-  popped-every P h =
-      popBridged-every t P j (popWorse t i j (reverse q) .stands) (popWorse-every t P i j (reverse q) (every-reverse P q h))
-
-  popped-rises : Falls q → Rises popped
-  unfolding popped
-  popped-rises h =
-      popBridged-pairs t (λ (a b : ℕ). a < b) j (popWorse t i j (reverse q) .stands)
-      (popWorse-pairs t (λ (a b : ℕ). a < b) i j (reverse q) (pairs-reverse (λ (a b : ℕ). b < a) q h))
-
-  pub add-every : (P : ℕ → Type 0) → P j → Every P q → Every P (add t i j q .stands)
-  unfolding add popped
-  add-every P new h = every-reverse P (j ∷ popped) (new, popped-every P h)
-
-  pub add-falls : Every (λ (k : ℕ). j < k) q → Falls q → Falls (add t i j q .stands)
-  unfolding add popped
-  add-falls below h = pairs-reverse (λ (a b : ℕ). a < b) (j ∷ popped) (popped-every (λ (k : ℕ). j < k) below, popped-rises h)
-
 -- ---- the rules on what is held
 module _ (l : Limits) (ws : List ℕ) where
   -- rule 1: who is live at the start before is low enough at i, and the front's line bounds the others

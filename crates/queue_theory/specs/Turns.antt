@@ -3,7 +3,7 @@ use Prim.Native.Nat.{ℕ, zero, suc, _+_, _≤_, _<_}
 use mathlib.Core.Path.{_≡_, refl, ap}
 use mathlib.Core.Logic.{⊎-elim}
 use mathlib.Core.Bool.{Bool, true, false, not, _||_}
-use mathlib.Core.List.{List, [], _∷_}
+use mathlib.Core.List.{List, _∷_}
 use native.Mathlib.Omega.{arith}
 use lib.Dec.{ltb}
 use borrow.Author.Tests.{lt-ltb, le-ltb, le-leb, lt-leb}
@@ -23,23 +23,15 @@ none-false (some v) h = absurd (h tt)
 
 module _ (t : Text) (i : ℕ) where
   -- ---- rule 1
-  pub dropLong-empty : dropLong t i [] ≡ still []
+  pub dropLong-more : (j : ℕ) (q : List ℕ) → t .lines .lmax < t .lines .line i j → dropLong t i (j ∷ q) ≡ moved (move Drop j) (dropLong t i q)
   unfolding dropLong
-  dropLong-empty = refl
+  dropLong-more j q h = rw (lt-ltb (t .lines .lmax) (t .lines .line i j) h, dropLong)
 
-  pub dropLong-more : (j : ℕ) (q : List ℕ) → t .limits .lmax < t .line i j → dropLong t i (j ∷ q) ≡ moved (move Drop j) (dropLong t i q)
+  pub dropLong-stop : (j : ℕ) (q : List ℕ) → t .lines .line i j ≤ t .lines .lmax → dropLong t i (j ∷ q) ≡ still (j ∷ q)
   unfolding dropLong
-  dropLong-more j q h = rw (lt-ltb (t .limits .lmax) (t .line i j) h, dropLong)
-
-  pub dropLong-stop : (j : ℕ) (q : List ℕ) → t .line i j ≤ t .limits .lmax → dropLong t i (j ∷ q) ≡ still (j ∷ q)
-  unfolding dropLong
-  dropLong-stop j q h = rw (le-ltb (t .limits .lmax) (t .line i j) h, dropLong)
+  dropLong-stop j q h = rw (le-ltb (t .lines .lmax) (t .lines .line i j) h, dropLong)
 
   -- ---- rule 2
-  pub popWorse-empty : (j : ℕ) → popWorse t i j [] ≡ still []
-  unfolding popWorse
-  popWorse-empty j = refl
-
   pub popWorse-more : (j k : ℕ) (q : List ℕ) → F t i j ≤ F t i k → popWorse t i j (k ∷ q) ≡ moved (move Pop k) (popWorse t i j q)
   unfolding popWorse
   popWorse-more j k q h = rw (le-leb (F t i j) (F t i k) h, popWorse)
@@ -48,50 +40,42 @@ module _ (t : Text) (i : ℕ) where
   unfolding popWorse
   popWorse-stop j k q h = rw (lt-leb (F t i j) (F t i k) h, popWorse)
 
-  consider-is : (j : ℕ) (q : List ℕ) (b : Bool) → (ltb (t .limits .lmax) (t .line i j) || not (has? (t .best j))) ≡ b →
+  consider-is : (j : ℕ) (q : List ℕ) (b : Bool) → (ltb (t .lines .lmax) (t .lines .line i j) || not (has? (t .best j))) ≡ b →
       consider t i j q ≡ elim b [ true ↦ moved (move Pass j) (still q) | false ↦ add t i j q ]
   unfolding consider
   consider-is j q b e = ap (λ (c : Bool). elim c [ true ↦ moved (move Pass j) (still q) | false ↦ add t i j q ]) e
 
-  pub consider-long : (j : ℕ) (q : List ℕ) → t .limits .lmax < t .line i j → consider t i j q ≡ moved (move Pass j) (still q)
-  consider-long j q h = consider-is j q true (rw (lt-ltb (t .limits .lmax) (t .line i j) h))
+  pub consider-long : (j : ℕ) (q : List ℕ) → t .lines .lmax < t .lines .line i j → consider t i j q ≡ moved (move Pass j) (still q)
+  consider-long j q h = consider-is j q true (rw (lt-ltb (t .lines .lmax) (t .lines .line i j) h))
 
   pub consider-none : (j : ℕ) (q : List ℕ) → ¬ Has (t .best j) → consider t i j q ≡ moved (move Pass j) (still q)
-  consider-none j q h = consider-is j q true (rw (none-false (t .best j) h) (either (ltb (t .limits .lmax) (t .line i j))))
+  consider-none j q h = consider-is j q true (rw (none-false (t .best j) h) (either (ltb (t .lines .lmax) (t .lines .line i j))))
     where
       either : (b : Bool) → (b || true) ≡ true
       either true = refl
       either false = refl
 
-  pub consider-pass : (j : ℕ) (q : List ℕ) → (t .line i j ≤ t .limits .lmax → ¬ Has (t .best j)) → consider t i j q ≡ moved (move Pass j) (still q)
-  consider-pass j q h = ⊎-elim (λ g. consider-none j q (h g)) (λ g. consider-long j q g) (split (t .line i j) (t .limits .lmax))
+  pub consider-pass : (j : ℕ) (q : List ℕ) → (t .lines .line i j ≤ t .lines .lmax → ¬ Has (t .best j)) → consider t i j q ≡ moved (move Pass j) (still q)
+  consider-pass j q h = ⊎-elim (λ g. consider-none j q (h g)) (λ g. consider-long j q g) (split (t .lines .line i j) (t .lines .lmax))
 
-  pub consider-add : (j : ℕ) (q : List ℕ) → t .line i j ≤ t .limits .lmax → Has (t .best j) → consider t i j q ≡ add t i j q
-  consider-add j q h has = consider-is j q false (rw (le-ltb (t .limits .lmax) (t .line i j) h, has-true (t .best j) has))
+  pub consider-add : (j : ℕ) (q : List ℕ) → t .lines .line i j ≤ t .lines .lmax → Has (t .best j) → consider t i j q ≡ add t i j q
+  consider-add j q h has = consider-is j q false (rw (le-ltb (t .lines .lmax) (t .lines .line i j) h, has-true (t .best j) has))
 
-  candidates-suc : (c : ℕ) (q : List ℕ) → t .limits .lmin ≤ t .line i (suc c) →
+  candidates-suc : (c : ℕ) (q : List ℕ) → t .lines .lmin ≤ t .lines .line i (suc c) →
       candidates t i (suc c) q ≡ joined (consider t i (suc c) q) (candidates t i c)
   unfolding candidates
-  candidates-suc c q h = rw (le-leb (t .limits .lmin) (t .line i (suc c)) h, candidates)
+  candidates-suc c q h = rw (le-leb (t .lines .lmin) (t .lines .line i (suc c)) h, candidates)
 
-  pub candidates-more : (c j : ℕ) (q : List ℕ) → c + 1 ≡ j → t .limits .lmin ≤ t .line i j →
+  pub candidates-more : (c j : ℕ) (q : List ℕ) → c + 1 ≡ j → t .lines .lmin ≤ t .lines .line i j →
       candidates t i j q ≡ joined (consider t i j q) (candidates t i c)
   candidates-more c j q e h = let g : j ≡ suc c = omega arith in rw g (candidates-suc c q (rw g at h))
 
-  pub candidates-stop : (j : ℕ) (q : List ℕ) → t .line i j < t .limits .lmin → candidates t i j q ≡ still (record { queue = q; candidate = j })
+  pub candidates-stop : (j : ℕ) (q : List ℕ) → t .lines .line i j < t .lines .lmin → candidates t i j q ≡ still (record { queue = q; candidate = j })
   unfolding candidates
   candidates-stop zero q h = refl
-  candidates-stop (suc c) q h = rw (lt-leb (t .limits .lmin) (t .line i (suc c)) h, candidates)
+  candidates-stop (suc c) q h = rw (lt-leb (t .lines .lmin) (t .lines .line i (suc c)) h, candidates)
 
   -- ---- rule 3
-  pub dropWorse-empty : dropWorse t i [] ≡ still []
-  unfolding dropWorse
-  dropWorse-empty = refl
-
-  pub dropWorse-one : (j : ℕ) → dropWorse t i (j ∷ []) ≡ still (j ∷ [])
-  unfolding dropWorse
-  dropWorse-one j = refl
-
   pub dropWorse-more : (j k : ℕ) (q : List ℕ) → F t i k ≤ F t i j → dropWorse t i (j ∷ k ∷ q) ≡ moved (move Drop j) (dropWorse t i (k ∷ q))
   unfolding dropWorse
   dropWorse-more j k q h = rw (le-leb (F t i k) (F t i j) h, dropWorse)
@@ -101,14 +85,6 @@ module _ (t : Text) (i : ℕ) where
   dropWorse-stop j k q h = rw (lt-leb (F t i k) (F t i j) h, dropWorse)
 
 module _ (t : Text) (j : ℕ) where
-  pub popBridged-empty : popBridged t j [] ≡ still []
-  unfolding popBridged
-  popBridged-empty = refl
-
-  pub popBridged-one : (k : ℕ) → popBridged t j (k ∷ []) ≡ still (k ∷ [])
-  unfolding popBridged
-  popBridged-one k = refl
-
   pub popBridged-more : (k l : ℕ) (q : List ℕ) → bridged t j k l ≡ true → popBridged t j (k ∷ l ∷ q) ≡ moved (move Pop k) (popBridged t j (l ∷ q))
   unfolding popBridged
   popBridged-more k l q h = rw (h, popBridged)
@@ -119,14 +95,14 @@ module _ (t : Text) (j : ℕ) where
 
 -- what a candidate gives: it is added where its line is within lmax and it has a setting, and otherwise passed
 pub consider-gives : (t : Text) (i j : ℕ) (q : List ℕ) (P : Taken (List ℕ) → Type 0) →
-    ((t .line i j ≤ t .limits .lmax → ¬ Has (t .best j)) → P (moved (move Pass j) (still q))) →
-    (t .line i j ≤ t .limits .lmax → Has (t .best j) → P (add t i j q)) → P (consider t i j q)
+    ((t .lines .line i j ≤ t .lines .lmax → ¬ Has (t .best j)) → P (moved (move Pass j) (still q))) →
+    (t .lines .line i j ≤ t .lines .lmax → Has (t .best j) → P (add t i j q)) → P (consider t i j q)
 consider-gives t i j q P passed added =
     ⊎-elim
     (λ h. by-setting h (t .best j) refl)
     (λ h. rw (consider-long t i j q h) (passed (λ g. absurd (omega arith))))
-    (split (t .line i j) (t .limits .lmax))
+    (split (t .lines .line i j) (t .lines .lmax))
   where
-    by-setting : t .line i j ≤ t .limits .lmax → (c : Cost) → t .best j ≡ c → P (consider t i j q)
+    by-setting : t .lines .line i j ≤ t .lines .lmax → (c : Cost) → t .best j ≡ c → P (consider t i j q)
     by-setting h none e = let g : ¬ Has (t .best j) = λ g. rw e at g in rw (consider-none t i j q g) (passed (λ k. g))
     by-setting h (some v) e = let g : Has (t .best j) = rw e tt in rw (consider-add t i j q h g) (added h g)
