@@ -1,5 +1,5 @@
 -- "With these the penalty of a line inside the measure stays below 2^28 and a paragraph's below 2^40."
-use Prim.Native.Nat.{ℕ, zero, suc, _-_, _*_, _^_, _≤_, _<_}
+use Prim.Native.Nat.{ℕ, zero, suc, _+_, _-_, _*_, _^_, _≤_, _<_}
 use mathlib.Core.Path.{_≡_, refl, subst}
 use mathlib.Core.Bool.{Bool, true, false, _&&_}
 use mathlib.Core.Logic.{⊎-elim}
@@ -15,13 +15,15 @@ use Rattle.laws.specs.Setting.{Best, best-bound}
 use Rattle.paper.specs.declared.Limits.{Limits}
 use Rattle.paper.specs.declared.PageLimits.{PageLimits}
 use Rattle.paper.specs.Paragraph as Paragraph
-use Rattle.paper.specs.Paragraph.{line, end, admissible, penalty, charge, paragraph}
+use Rattle.paper.specs.Lines as Lines
+use Rattle.paper.specs.Lines.{Lines, admissible, charge, settings}
+use Rattle.paper.specs.Paragraph.{end, penalty, lines}
 use Rattle.paper.specs.Index as Index
 use Rattle.paper.specs.Index.{item, index}
 use Rattle.paper.specs.Allowed.{lengthHolds}
 use Rattle.paper_theory.specs.Ranges.{Ranges}
 use Rattle.paper_theory.specs.Scale.{length-holds}
-use Rattle.paper_theory.specs.Right.{best-paragraph, best-index}
+use Rattle.paper_theory.specs.Cheapest.{best-lines, best-index}
 
 -- a square of at most 4,095, fifteen times
 square-bound : (a d : ℕ) → a ≤ 15 → d ≤ 4095 → a * (d * d) < 2 ^ 28
@@ -41,30 +43,38 @@ penalty-bound l r x h =
     rw e (omega (arith, square-bound (l .a) (x - l .lopt) (r .a-high) (omega (arith, r .lmax-high, r .lopt-low, r .lmin-low)))))
     (split x (l .lopt))
 
--- every admissible line is at most lmax
-pub admissible-lmax : (l : Limits) (ws : List ℕ) (i j : ℕ) → T (admissible l ws i j) → line ws i j ≤ l .lmax
-unfolding admissible
-admissible-lmax l ws i j t = go (eqb j (end ws)) t
-  where
-    go : (b : Bool) → T (if b (leb (line ws i j) (l .lmax)) (leb (l .lmin) (line ws i j) && leb (line ws i j) (l .lmax))) → line ws i j ≤ l .lmax
-    go true t = leb→le (line ws i j) (l .lmax) t
-    go false t = leb→le (line ws i j) (l .lmax) (both (leb (l .lmin) (line ws i j)) (leb (line ws i j) (l .lmax)) t .1)
+-- ---- over what a paragraph's lines are: a line within lmax costs at most C, with what its break is charged
+module _ (p : Lines) (C : ℕ) (each : (x : ℕ) → x ≤ p .lmax → (j : ℕ) → p .penalty x + p .break j ≤ C) where
+  -- every admissible line is at most lmax
+  pub admissible-lmax : (i j : ℕ) → T (admissible p i j) → p .line i j ≤ p .lmax
+  unfolding admissible
+  admissible-lmax i j t = go (eqb j (p .end)) t
+    where
+      go : (b : Bool) → T (if b (leb (p .lastmin) (p .line i j) && leb (p .line i j) (p .lmax)) (leb (p .lmin) (p .line i j) && leb (p .line i j) (p .lmax))) →
+          p .line i j ≤ p .lmax
+      go true t = leb→le (p .line i j) (p .lmax) (both (leb (p .lastmin) (p .line i j)) (leb (p .line i j) (p .lmax)) t .1)
+      go false t = leb→le (p .line i j) (p .lmax) (both (leb (p .lmin) (p .line i j)) (leb (p .line i j) (p .lmax)) t .1)
 
--- and costs less than 2^28
-pub charge-bound : (l : Limits) → Ranges l → (ws : List ℕ) (i j : ℕ) → line ws i j ≤ l .lmax → charge l ws i j < 2 ^ 28
-unfolding charge
-charge-bound l r ws i j h = go (eqb j (end ws) && leb (line ws i j) (l .lopt))
-  where
-    go : (b : Bool) → if b 0 (penalty l (line ws i j)) < 2 ^ 28
-    go true = omega arith
-    go false = penalty-bound l r (line ws i j) h
+  charge-bound : (i j : ℕ) → p .line i j ≤ p .lmax → charge p i j ≤ C
+  unfolding charge
+  charge-bound i j h = go (eqb j (p .end) && leb (p .line i j) (p .lopt))
+    where
+      go : (b : Bool) → if b 0 (p .penalty (p .line i j) + p .break j) ≤ C
+      go true = omega arith
+      go false = each (p .line i j) h j
+
+  pub lines-bound : (i v : ℕ) → i ≤ p .end → Lines.best p i ≡ some v → v ≤ (p .end - i) * C
+  unfolding settings
+  lines-bound i v high e =
+      best-bound (settings p) C (λ j k ch. charge-bound j k (admissible-lmax j k (ch .admissible))) (λ c n. omega arith) refl i v high
+      (subst (Best (settings p) i) e (best-lines p i high))
 
 pub paragraph-bound : (l : Limits) → Ranges l → (ws : List ℕ) → length ws ≤ 4096 → (i v : ℕ) → 1 ≤ i → i ≤ end ws →
     Paragraph.best l ws i ≡ some v → v < 2 ^ 40
-unfolding paragraph
+unfolding Paragraph.best lines
 paragraph-bound l r ws few i v low high e =
-    let b : Best (paragraph l ws) i (some v) = subst (Best (paragraph l ws) i) e (best-paragraph l ws i high) in
-    let t : v ≤ (end ws - i) * (2 ^ 28 - 1) = best-bound (paragraph l ws) (2 ^ 28 - 1) (λ j k ch. omega (arith, charge-bound l r ws j k (admissible-lmax l ws j k (ch .admissible)))) (λ c n. omega arith) refl i v high b in
+    let t : v ≤ (end ws - i) * (2 ^ 28 - 1) =
+    lines-bound (lines l ws) (2 ^ 28 - 1) (λ x h j. omega (arith, penalty-bound l r x h)) i v high e in
     let m : end ws - i ≤ 4096 = omega arith in
     omega (arith, mul-le-mul-right (2 ^ 28 - 1) m)
 

@@ -2,6 +2,6 @@
 pub mod Ranges
 pub mod Entries
 pub mod Scale
-pub mod Right
+pub mod Cheapest
 pub mod Bound
 pub mod Marked

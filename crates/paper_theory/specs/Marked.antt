@@ -16,7 +16,7 @@ use Rattle.paper.specs.Paragraph.{paragraph}
 use Rattle.paper.specs.Index as Index
 use Rattle.paper.specs.Index.{index}
 use Rattle.paper.specs.Marked.{Asked, para, list, found, Row, table, limits, pageLimits, Given, Holds, Each, outcomeOf, computed, rows-computed}
-use Rattle.paper_theory.specs.Right.{best-paragraph, paragraph-right, best-index, index-right}
+use Rattle.paper_theory.specs.Cheapest.{best-paragraph, paragraph-cheapest, best-index, index-cheapest}
 
 -- there is a word, and lopt is at most lmax
 abbrev sound : Asked → List ℕ → Bool
@@ -30,7 +30,7 @@ para-given lmin lopt lmax a ws wide words none e =
     subst (Best (paragraph (limits lmin lopt lmax a) ws) 1) e (best-paragraph (limits lmin lopt lmax a) ws 1 (omega arith))
 para-given lmin lopt lmax a ws wide words (some v) e =
     let l : Limits = limits lmin lopt lmax a in
-    let r = paragraph-right l ws wide words v e in
+    let r = paragraph-cheapest l ws wide words v e in
     subst (λ (b : List ℕ). Given (para lmin lopt lmax a) ws (found v b)) (sym (r .1))
     (refl, (subst (Best (paragraph l ws) 1) e (best-paragraph l ws 1 (omega arith)), r .2))
 
@@ -39,7 +39,7 @@ list-given : (lmin lmax : ℕ) (ws : List ℕ) (c : Cost) → Index.best (pageLi
 list-given lmin lmax ws none e = subst (Best (index (pageLimits lmin lmax) ws) 0) e (best-index (pageLimits lmin lmax) ws 0 (omega arith))
 list-given lmin lmax ws (some v) e =
     let l : PageLimits = pageLimits lmin lmax in
-    (subst (Best (index l ws) 0) e (best-index l ws 0 (omega arith)), index-right l ws v e .0)
+    (subst (Best (index l ws) 0) e (best-index l ws 0 (omega arith)), index-cheapest l ws v e .0)
 
 computed-given : (a : Asked) (ws : List ℕ) → T (sound a ws) → Given a ws (computed a ws)
 unfolding computed
