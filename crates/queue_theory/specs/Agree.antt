@@ -8,43 +8,64 @@ use native.Mathlib.Omega.{arith}
 use Rattle.laws.specs.Number.{split, tested}
 use Rattle.laws.specs.Cost.{Cost, Has}
 use Rattle.laws.specs.Members.{Every, every-reverse, Rises, pairs-reverse}
-use Rattle.paper.specs.declared.Limits.{Limits}
 use Rattle.paper.specs.declared.Kind.the-variants.{Drop, Pop}
 use Rattle.paper.specs.Moves.{Taken, move, still, moved, joined}
-use Rattle.paper.specs.Paragraph.{line, end, best, penalty}
-use Rattle.paper.specs.QueueRules.{Text, Standing, textOf, F, edge, chord, bridged, dropLong, popWorse, popBridged, added, add, consider, candidates, dropWorse, settled, atStart}
-use Rattle.queue_theory.specs.Turns.{dropLong-more, dropLong-stop, popWorse-more, popWorse-stop, popBridged-more, popBridged-stop, consider-pass, consider-add, consider-gives, candidates-more, candidates-stop, dropWorse-more, dropWorse-stop}
+use Rattle.paper.specs.QueueRules.{Text, Standing, F, edge, chord, bridged, dropLong, popWorse, popBridged, added, add, consider}
+use Rattle.paper.specs.QueueRules.{candidates, dropWorse, settled, atStart, afterStarts}
+use Rattle.queue_theory.specs.Scales.{Scaled}
+use Rattle.queue_theory.specs.Turns.{dropLong-more, dropLong-stop, popWorse-more, popWorse-stop, popBridged-more, popBridged-stop}
+use Rattle.queue_theory.specs.Turns.{consider-pass, consider-add, consider-gives, candidates-more, candidates-stop}
+use Rattle.queue_theory.specs.Turns.{dropWorse-more, dropWorse-stop}
 use Rattle.queue_theory.specs.Leaves.{popWorse-every, popWorse-pairs}
-use Rattle.queue_theory.specs.Ready.{Live, live-apart, Held, Ready, dropLong-held, considered-above, considered-live, consider-held, candidates-held}
+use Rattle.queue_theory.specs.Ready.{Measured, measured-apart, Held, Stood, dropLong-held, considered-above, considered-live}
+use Rattle.queue_theory.specs.Ready.{consider-held, candidates-held, stood}
 
--- a text by its parts
-abbrev pub textWith : Limits → (ℕ → ℕ) → (ℕ → ℕ → ℕ) → (ℕ → ℕ → ℕ) → (ℕ → Cost) → Text
-textWith l p lines aparts bests = record { limits = l; penalty = p; line = lines; apart = aparts; best = bests }
+-- a text with the limits of t, and other parts
+abbrev pub textWith : Text → ℕ → (ℕ → ℕ) → (ℕ → ℕ → ℕ) → (ℕ → ℕ) → (ℕ → ℕ → ℕ) → (ℕ → Cost) → Text
+textWith t end formula lines breaks aparts bests = record {
+  lines = record {
+    end = end;
+    lmin = t .lines .lmin;
+    lopt = t .lines .lopt;
+    lmax = t .lines .lmax;
+    lastmin = t .lines .lastmin;
+    line = lines;
+    penalty = formula;
+    break = breaks;
+  };
+  a = t .a;
+  apart = aparts;
+  best = bests;
+}
 
--- the parts agree with the paragraph where the rules of start i look
-pub record Agrees (l : Limits) (ws : List ℕ) (p : ℕ → ℕ) (lines aparts : ℕ → ℕ → ℕ) (bests : ℕ → Cost) (i : ℕ) : Type 0 where
-  pub formula : (x : ℕ) → l .lmin ≤ x → x ≤ l .lmax → p x ≡ penalty l x
-  pub from-start : (k : ℕ) → i ≤ k → k ≤ end ws → lines i k ≡ line ws i k
-  pub between : (j k : ℕ) → i < j → j ≤ k → k ≤ end ws → aparts j k ≡ line ws j k
-  pub later : (k : ℕ) → i < k → k ≤ end ws → bests k ≡ best l ws k
+-- the parts agree with those of t where the rules of start i look
+pub record Agrees (t : Text) (formula : ℕ → ℕ) (lines aparts : ℕ → ℕ → ℕ) (bests : ℕ → Cost) (i : ℕ) : Type 0 where
+  pub inside : (x : ℕ) → t .lines .lmin ≤ x → x ≤ t .lines .lmax → formula x ≡ t .lines .penalty x
+  pub from-start : (k : ℕ) → i ≤ k → k ≤ t .lines .end → lines i k ≡ t .lines .line i k
+  pub between : (j k : ℕ) → i < j → j ≤ k → k ≤ t .lines .end → aparts j k ≡ t .apart j k
+  pub later : (k : ℕ) → i < k → k ≤ t .lines .end → bests k ≡ t .best k
 
 -- alike at first, and alike on what stands then
 pub joined-same : {A B : Type 0} (a b : Taken A) (f g : A → Taken B) → a ≡ b → f (b .stands) ≡ g (b .stands) → joined a f ≡ joined b g
 joined-same a b f g e h = rw (e, h)
 
-module _ (l : Limits) (ws : List ℕ) (p : ℕ → ℕ) (lines aparts : ℕ → ℕ → ℕ) (bests : ℕ → Cost) (i : ℕ) (start : 1 ≤ i)
-    (agrees : Agrees l ws p lines aparts bests i) where
+module _ {t : Text} (s : Scaled t) (end : ℕ) {formula : ℕ → ℕ} {lines : ℕ → ℕ → ℕ} (breaks : ℕ → ℕ) {aparts : ℕ → ℕ → ℕ} {bests : ℕ → Cost}
+    {i : ℕ} (start : 1 ≤ i) (agrees : Agrees t formula lines aparts bests i) where
   abbrev u : Text
-  u = textWith l p lines aparts bests
+  u = textWith t end formula lines breaks aparts bests
 
   -- ---- the tests
-  pub F-same : (j : ℕ) → Live l ws i j → F u i j ≡ F (textOf l ws) i j
-  unfolding F textOf
+  pub F-same : (j : ℕ) → Measured t i j → F u i j ≡ F t i j
+  unfolding F
   F-same j v =
-      rw (agrees .later j (v .above) (v .within), agrees .from-start j (omega (arith, v .above)) (v .within), agrees .formula (line ws i j) (v .low) (v .high))
+      rw (
+        agrees .later j (v .above) (v .within),
+        agrees .from-start j (omega (arith, v .above)) (v .within),
+        agrees .inside (t .lines .line i j) (v .low) (v .high),
+      )
 
-  bridged-same : (j k m : ℕ) → j < k → k < m → Live l ws i j → Live l ws i k → Live l ws i m → bridged u j k m ≡ bridged (textOf l ws) j k m
-  unfolding edge chord textOf
+  bridged-same : (j k m : ℕ) → j < k → k < m → Measured t i j → Measured t i k → Measured t i m → bridged u j k m ≡ bridged t j k m
+  unfolding edge chord
   bridged-same j k m jk km x v w =
       rw (
         agrees .later j (x .above) (x .within),
@@ -53,59 +74,60 @@ module _ (l : Limits) (ws : List ℕ) (p : ℕ → ℕ) (lines aparts : ℕ → 
         agrees .between j k (x .above) (omega arith) (v .within),
         agrees .between j m (x .above) (omega arith) (w .within),
         agrees .between k m (v .above) (omega arith) (w .within),
-        agrees .formula (l .lmax - line ws j m) (omega (arith, live-apart l ws i j m start (omega arith) x w)) (omega arith),
-        agrees .formula (l .lmax - line ws k m) (omega (arith, live-apart l ws i k m start (omega arith) v w)) (omega arith),
+        agrees .inside (t .lines .lmax - t .apart j m) (omega (arith, measured-apart s {j = j} {k = m} start (omega arith) x w)) (omega arith),
+        agrees .inside (t .lines .lmax - t .apart k m) (omega (arith, measured-apart s {j = k} {k = m} start (omega arith) v w)) (omega arith),
       )
 
   -- ---- the rules
-  dropLong-same : (q : List ℕ) → Every (Live l ws (i + 1)) q → dropLong u i q ≡ dropLong (textOf l ws) i q
-  unfolding dropLong textOf
+  dropLong-same : (q : List ℕ) → Every (Measured t (i + 1)) q → dropLong u i q ≡ dropLong t i q
+  unfolding dropLong
   dropLong-same [] live = refl
   dropLong-same (j ∷ q) live =
-      let e : lines i j ≡ line ws i j = agrees .from-start j (omega (arith, live .0 .above)) (live .0 .within) in
+      let e : lines i j ≡ t .lines .line i j = agrees .from-start j (omega (arith, live .0 .above)) (live .0 .within) in
       ⊎-elim
-      (λ h. dropLong-stop u i j q (omega arith) ∙ sym (dropLong-stop (textOf l ws) i j q h))
-      (λ h. dropLong-more u i j q (omega arith) ∙ ap (moved (move Drop j)) (dropLong-same q (live .1)) ∙ sym (dropLong-more (textOf l ws) i j q h))
-      (split (line ws i j) (l .lmax))
+      (λ h. dropLong-stop u i j q (omega arith) ∙ sym (dropLong-stop t i j q h))
+      (λ h. dropLong-more u i j q (omega arith) ∙ ap (moved (move Drop j)) (dropLong-same q (live .1)) ∙ sym (dropLong-more t i j q h))
+      (split (t .lines .line i j) (t .lines .lmax))
 
-  popWorse-same : (j : ℕ) (q : List ℕ) → Live l ws i j → Every (Live l ws i) q → popWorse u i j q ≡ popWorse (textOf l ws) i j q
+  popWorse-same : (j : ℕ) (q : List ℕ) → Measured t i j → Every (Measured t i) q → popWorse u i j q ≡ popWorse t i j q
   unfolding popWorse
   popWorse-same j [] new live = refl
   popWorse-same j (k ∷ q) new live =
       let a = F-same j new in
       let b = F-same k (live .0) in
       ⊎-elim
-      (λ h. popWorse-more u i j k q (omega arith) ∙ ap (moved (move Pop k)) (popWorse-same j q new (live .1)) ∙ sym (popWorse-more (textOf l ws) i j k q h))
-      (λ h. popWorse-stop u i j k q (omega arith) ∙ sym (popWorse-stop (textOf l ws) i j k q h))
-      (split (F (textOf l ws) i j) (F (textOf l ws) i k))
+      (λ h. popWorse-more u i j k q (omega arith) ∙ ap (moved (move Pop k)) (popWorse-same j q new (live .1)) ∙ sym (popWorse-more t i j k q h))
+      (λ h. popWorse-stop u i j k q (omega arith) ∙ sym (popWorse-stop t i j k q h))
+      (split (F t i j) (F t i k))
 
-  popBridged-same : (j : ℕ) (q : List ℕ) → Live l ws i j → Every (λ (k : ℕ). j < k) q → Rises q → Every (Live l ws i) q →
-      popBridged u j q ≡ popBridged (textOf l ws) j q
+  popBridged-same : (j : ℕ) (q : List ℕ) → Measured t i j → Every (λ (k : ℕ). j < k) q → Rises q → Every (Measured t i) q →
+      popBridged u j q ≡ popBridged t j q
   unfolding popBridged
   popBridged-same j [] new above up live = refl
   popBridged-same j (k ∷ []) new above up live = refl
   popBridged-same j (k ∷ m ∷ q) new above up live =
       let e = bridged-same j k m (above .0) (up .0 .0) new (live .0) (live .1 .0) in
+      let rest = popBridged-same j (m ∷ q) new (above .1) (up .1) (live .1) in
       ⊎-elim
-      (λ h. popBridged-more u j k m q (e ∙ h) ∙ ap (moved (move Pop k)) (popBridged-same j (m ∷ q) new (above .1) (up .1) (live .1)) ∙ sym (popBridged-more (textOf l ws) j k m q h))
-      (λ h. popBridged-stop u j k m q (e ∙ h) ∙ sym (popBridged-stop (textOf l ws) j k m q h))
-      (tested (bridged (textOf l ws) j k m))
+      (λ h. popBridged-more u j k m q (e ∙ h) ∙ ap (moved (move Pop k)) rest ∙ sym (popBridged-more t j k m q h))
+      (λ h. popBridged-stop u j k m q (e ∙ h) ∙ sym (popBridged-stop t j k m q h))
+      (tested (bridged t j k m))
 
-  add-same : (j : ℕ) (q : List ℕ) → Live l ws i j → Held l ws i j q → add u i j q ≡ add (textOf l ws) i j q
+  add-same : (j : ℕ) (q : List ℕ) → Measured t i j → Held t i j q → add u i j q ≡ add t i j q
   unfolding add
   add-same j q new h =
-      let r = popWorse (textOf l ws) i j (reverse q) in
-      let live = every-reverse (Live l ws i) q (h .live) in
-      joined-same (joined (popWorse u i j (reverse q)) (popBridged u j)) (joined r (popBridged (textOf l ws) j)) (added j) (added j)
-      (joined-same (popWorse u i j (reverse q)) r (popBridged u j) (popBridged (textOf l ws) j)
+      let r = popWorse t i j (reverse q) in
+      let live = every-reverse (Measured t i) q (h .live) in
+      joined-same (joined (popWorse u i j (reverse q)) (popBridged u j)) (joined r (popBridged t j)) (added j) (added j)
+      (joined-same (popWorse u i j (reverse q)) r (popBridged u j) (popBridged t j)
       (popWorse-same j (reverse q) new live)
       (popBridged-same j (r .stands) new
-      (popWorse-every (textOf l ws) (λ (k : ℕ). j < k) i j (reverse q) (every-reverse (λ (k : ℕ). j < k) q (h .below)))
-      (popWorse-pairs (textOf l ws) (λ (a b : ℕ). a < b) i j (reverse q) (pairs-reverse (λ (a b : ℕ). b < a) q (h .falls)))
-      (popWorse-every (textOf l ws) (Live l ws i) i j (reverse q) live)))
+      (popWorse-every t (λ (k : ℕ). j < k) i j (reverse q) (every-reverse (λ (k : ℕ). j < k) q (h .below)))
+      (popWorse-pairs t (λ (a b : ℕ). a < b) i j (reverse q) (pairs-reverse (λ (a b : ℕ). b < a) q (h .falls)))
+      (popWorse-every t (Measured t i) i j (reverse q) live)))
       refl
 
-  dropWorse-same : (q : List ℕ) → Every (Live l ws i) q → dropWorse u i q ≡ dropWorse (textOf l ws) i q
+  dropWorse-same : (q : List ℕ) → Every (Measured t i) q → dropWorse u i q ≡ dropWorse t i q
   unfolding dropWorse
   dropWorse-same [] live = refl
   dropWorse-same (j ∷ []) live = refl
@@ -113,43 +135,56 @@ module _ (l : Limits) (ws : List ℕ) (p : ℕ → ℕ) (lines aparts : ℕ → 
       let a = F-same j (live .0) in
       let b = F-same k (live .1 .0) in
       ⊎-elim
-      (λ h. dropWorse-more u i j k q (omega arith) ∙ ap (moved (move Drop j)) (dropWorse-same (k ∷ q) (live .1)) ∙ sym (dropWorse-more (textOf l ws) i j k q h))
-      (λ h. dropWorse-stop u i j k q (omega arith) ∙ sym (dropWorse-stop (textOf l ws) i j k q h))
-      (split (F (textOf l ws) i k) (F (textOf l ws) i j))
+      (λ h. dropWorse-more u i j k q (omega arith) ∙ ap (moved (move Drop j)) (dropWorse-same (k ∷ q) (live .1)) ∙ sym (dropWorse-more t i j k q h))
+      (λ h. dropWorse-stop u i j k q (omega arith) ∙ sym (dropWorse-stop t i j k q h))
+      (split (F t i k) (F t i j))
 
-  module _ (positive : 1 ≤ l .lmin) where
-    consider-same : (j : ℕ) (q : List ℕ) → Held l ws i j q → l .lmin ≤ line ws i j → consider u i j q ≡ consider (textOf l ws) i j q
-    unfolding textOf
-    consider-same j q h reach =
-        let e : lines i j ≡ line ws i j = agrees .from-start j (h .near) (h .within) in
-        let f : bests j ≡ best l ws j = agrees .later j (considered-above l ws i j q start positive h reach) (h .within) in
-        consider-gives (textOf l ws) i j q (λ (r : Taken (List ℕ)). consider u i j q ≡ r)
-        (λ out. consider-pass u i j q (λ high has. out (omega arith) (subst Has f has)))
-        (λ high has. consider-add u i j q (omega arith) (subst Has (sym f) has) ∙ add-same j q (considered-live l ws i j q start positive h reach high has) h)
+  consider-same : (j : ℕ) (q : List ℕ) → Held t i j q → t .lines .lmin ≤ t .lines .line i j → consider u i j q ≡ consider t i j q
+  consider-same j q h reach =
+      let e : lines i j ≡ t .lines .line i j = agrees .from-start j (h .near) (h .within) in
+      let f : bests j ≡ t .best j = agrees .later j (considered-above s start h reach) (h .within) in
+      consider-gives t i j q (λ (r : Taken (List ℕ)). consider u i j q ≡ r)
+      (λ out. consider-pass u i j q (λ high has. out (omega arith) (subst Has f has)))
+      (λ high has. consider-add u i j q (omega arith) (subst Has (sym f) has) ∙ add-same j q (considered-live s start h reach high has) h)
 
-    candidates-same : (c : ℕ) (q : List ℕ) → Held l ws i c q → candidates u i c q ≡ candidates (textOf l ws) i c q
-    unfolding textOf
-    candidates-same zero q h = absurd (omega (arith, h .near))
-    candidates-same (suc c) q h =
-        let e : c + 1 ≡ suc c = omega arith in
-        let f : lines i (suc c) ≡ line ws i (suc c) = agrees .from-start (suc c) (h .near) (h .within) in
-        ⊎-elim
-        (λ reach. candidates-more u i c (suc c) q e (omega arith)
-        ∙ joined-same (consider u i (suc c) q) (consider (textOf l ws) i (suc c) q) (candidates u i c) (candidates (textOf l ws) i c)
-        (consider-same (suc c) q h reach)
-        (candidates-same c (consider (textOf l ws) i (suc c) q .stands) (consider-held l ws i (suc c) q start positive h reach c e))
-        ∙ sym (candidates-more (textOf l ws) i c (suc c) q e reach))
-        (λ short. candidates-stop u i (suc c) q (omega arith) ∙ sym (candidates-stop (textOf l ws) i (suc c) q short))
-        (split (l .lmin) (line ws i (suc c)))
+  candidates-same : (c : ℕ) (q : List ℕ) → Held t i c q → candidates u i c q ≡ candidates t i c q
+  candidates-same zero q h = absurd (omega (arith, h .near))
+  candidates-same (suc c) q h =
+      let e : c + 1 ≡ suc c = omega arith in
+      let f : lines i (suc c) ≡ t .lines .line i (suc c) = agrees .from-start (suc c) (h .near) (h .within) in
+      ⊎-elim
+      (λ reach. candidates-more u i c (suc c) q e (omega arith)
+      ∙ joined-same (consider u i (suc c) q) (consider t i (suc c) q) (candidates u i c) (candidates t i c)
+      (consider-same (suc c) q h reach)
+      (candidates-same c (consider t i (suc c) q .stands) (consider-held s start h reach c e))
+      ∙ sym (candidates-more t i c (suc c) q e reach))
+      (λ short. candidates-stop u i (suc c) q (omega arith) ∙ sym (candidates-stop t i (suc c) q short))
+      (split (t .lines .lmin) (t .lines .line i (suc c)))
 
-    pub atStart-same : (s : Standing) → Ready l ws i s → atStart u i s ≡ atStart (textOf l ws) i s
-    unfolding atStart settled
-    atStart-same s r =
-        let a = dropLong (textOf l ws) i (s .queue) in
-        let h = dropLong-held l ws i (s .candidate) (s .queue) start (r .held) in
-        let b = joined a (candidates (textOf l ws) i (s .candidate)) in
-        joined-same (joined (dropLong u i (s .queue)) (candidates u i (s .candidate))) b (settled u i) (settled (textOf l ws) i)
-        (joined-same (dropLong u i (s .queue)) a (candidates u i (s .candidate)) (candidates (textOf l ws) i (s .candidate))
-        (dropLong-same (s .queue) (r .held .live)) (candidates-same (s .candidate) (a .stands) h))
-        (ap (λ (d : Taken (List ℕ)). joined d (λ (q : List ℕ). still (record { queue = q; candidate = b .stands .candidate })))
-        (dropWorse-same (b .stands .queue) (candidates-held l ws i start positive (s .candidate) (a .stands) h .0 .live)))
+  pub atStart-same : (v : Standing) → Stood t (i + 1) v → atStart u i v ≡ atStart t i v
+  unfolding atStart settled
+  atStart-same v r =
+      let a = dropLong t i (v .queue) in
+      let h = dropLong-held s start (v .candidate) (v .queue) (r .held) in
+      let b = joined a (candidates t i (v .candidate)) in
+      joined-same (joined (dropLong u i (v .queue)) (candidates u i (v .candidate))) b (settled u i) (settled t i)
+      (joined-same (dropLong u i (v .queue)) a (candidates u i (v .candidate)) (candidates t i (v .candidate))
+      (dropLong-same (v .queue) (r .held .live)) (candidates-same (v .candidate) (a .stands) h))
+      (ap (λ (d : Taken (List ℕ)). joined d (λ (q : List ℕ). still (record { queue = q; candidate = b .stands .candidate })))
+      (dropWorse-same (b .stands .queue) (candidates-held s start (v .candidate) (a .stands) h .held .live)))
+
+-- The queue rules apply the penalty formula only to lengths within lmin..lmax: a formula that agrees there takes the same moves and leaves
+-- the same queue at every start.
+pub formula-same : {t : Text} (s : Scaled t) (n : ℕ) → t .lines .end ≡ n + 1 → (formula : ℕ → ℕ) →
+    ((x : ℕ) → t .lines .lmin ≤ x → x ≤ t .lines .lmax → formula x ≡ t .lines .penalty x) → (d : ℕ) → d ≤ n →
+    afterStarts (textWith t (t .lines .end) formula (t .lines .line) (t .lines .break) (t .apart) (t .best)) n d ≡ afterStarts t n d
+unfolding afterStarts
+formula-same s n size formula same zero h = refl
+formula-same {t} s n size formula same (suc d) h =
+    let a = afterStarts t n d in
+    let u : Text = textWith t (t .lines .end) formula (t .lines .line) (t .lines .break) (t .apart) (t .best) in
+    joined-same (afterStarts u n d) a (atStart u (n - d)) (atStart t (n - d))
+    (formula-same s n size formula same d (omega arith))
+    (atStart-same s (t .lines .end) (t .lines .break) (omega arith)
+    (record { inside = same; from-start = λ k g f. refl; between = λ j k g f e. refl; later = λ k g f. refl })
+    (a .stands) (stood s n size d (omega arith)))

@@ -1,124 +1,117 @@
--- F, lines and "bridged" on the scale of sums, where the laws of curves and of the queue hold. Assumes nothing but what each
--- law states.
+-- F, lines and "bridged" on the two scales, where the laws of curves and of the queue hold. Assumes nothing but what each law states.
 use Prim.Native.Nat.{ℕ, _+_, _-_, _*_, _≤_, _<_}
 use mathlib.Core.Path.{_≡_, refl, ap, sym, _∙_}
 use mathlib.Core.Bool.{Bool, true, false, _&&_}
-use mathlib.Core.List.{List}
 use native.Mathlib.Omega.{arith}
-use lib.Dec.{T, leb}
+use lib.Dec.{leb}
 use borrow.Author.Tests.{leb-true, le-leb}
-use Rattle.laws.specs.Number.{all}
 use Rattle.laws.specs.Cost.{Has, value}
-use Rattle.laws.specs.Square.{sqd-line}
+use Rattle.laws.specs.Square.{sqd, sqd-line}
 use Rattle.laws.specs.Bridge.{curve, monotone, edge-side, Bridged, bridged-gives, not-bridged-gives}
 use Rattle.laws.specs.Queue.{Laws, Ordered, Useless}
-use Rattle.paper.specs.declared.Limits.{Limits}
-use Rattle.paper.specs.Allowed.{lengthHolds}
-use Rattle.paper.specs.Paragraph.{line, end, best, penalty}
-use Rattle.paper.specs.QueueRules.{textOf, F, edge, chord, bridged}
-use Rattle.paper_theory.specs.Scale.{upTo, upTo-le, upTo-rise, line-scale}
-
--- where a line from start i begins, and where a line that ends before j ends: the sum of the words before
-unfoldable pub at : List ℕ → ℕ → ℕ
-at ws i = upTo ws (i - 1)
+use Rattle.paper.specs.QueueRules.{Text, bestOf, F, edge, chord, bridged}
+use Rattle.queue_theory.specs.Scales.{Scaled, ends-le}
+use Rattle.queue_theory.specs.Ready.{Measured}
 
 -- a break that has a setting
-pub record Break (l : Limits) (ws : List ℕ) (j : ℕ) : Type 0 where
+pub record Settable (t : Text) (j : ℕ) : Type 0 where
   pub from : 1 ≤ j
-  pub within : j ≤ end ws
-  pub has : Has (best l ws j)
+  pub within : j ≤ t .lines .end
+  pub has : Has (t .best j)
 
 -- F(i, j) at position x, which is where start i begins
-unfoldable pub G : Limits → List ℕ → ℕ → ℕ → ℕ
-G l ws j x = curve (l .a) (value (best l ws j)) (at ws j) (x + l .lopt)
+unfoldable pub G : {t : Text} → Scaled t → ℕ → ℕ → ℕ
+G {t} s j x = curve (t .a) (bestOf t j) (s .E j) (x + t .lines .lopt)
 
-module _ (ws : List ℕ) where
-  pub at-le : (i j : ℕ) → i ≤ j → at ws i ≤ at ws j
-  unfolding at
-  at-le i j h = upTo-le ws (i - 1) (j - 1) (omega arith)
+module _ {t : Text} (s : Scaled t) where
+  -- a line on the scales
+  pub line-is : (i j : ℕ) → 1 ≤ i → i < j → j ≤ t .lines .end → t .lines .line i j ≡ s .E j - s .T i
+  line-is i j h ij je = omega (arith, s .line i j h ij je)
 
-  pub at-line : (i j : ℕ) → 1 ≤ i → i ≤ j → at ws i + line ws i j ≡ at ws j
-  unfolding at
-  at-line i j h k = line-scale ws i j h k
+  apart-is : (j k : ℕ) → 1 ≤ j → j ≤ k → k ≤ t .lines .end → t .apart j k ≡ s .E k - s .E j
+  apart-is j k h jk ke = omega (arith, s .apart j k h jk ke)
 
-  pub line-at : (i j : ℕ) → 1 ≤ i → i ≤ j → line ws i j ≡ at ws j - at ws i
-  line-at i j h k = omega (arith, at-line i j h k)
+  pub F-is : (i j : ℕ) → 1 ≤ i → Measured t i j → F t i j ≡ G s j (s .T i)
+  unfolding F G
+  F-is i j h v =
+      ap (λ (n : ℕ). bestOf t j + n)
+      (s .formula (t .lines .line i j) (v .low) (v .high)
+      ∙ ap (λ (x : ℕ). t .a * sqd x (t .lines .lopt)) (line-is i j h (v .above) (v .within))
+      ∙ ap (λ (n : ℕ). t .a * n) (sqd-line (s .E j) (s .T i) (t .lines .lopt) (omega (arith, s .line i j h (v .above) (v .within)))))
 
-  pub at-rise : T (all lengthHolds ws) → (i j : ℕ) → 1 ≤ i → i < j → j ≤ end ws → at ws i < at ws j
-  unfolding at
-  at-rise allowed i j h k e = upTo-rise ws allowed (i - 1) (j - 1) (omega arith) (omega arith)
-
-module _ (l : Limits) (ws : List ℕ) where
-  pub F-is : (i j : ℕ) → 1 ≤ i → i ≤ j → F (textOf l ws) i j ≡ G l ws j (at ws i)
-  unfolding F textOf penalty G
-  F-is i j h k =
-      rw (line-at ws i j h k) (ap (λ (n : ℕ). value (best l ws j) + l .a * n) (sqd-line (at ws j) (at ws i) (l .lopt) (at-le ws i j k)))
-
-  pub laws : Laws (G l ws) (at ws) (Break l ws)
+  pub laws : Laws (G s) (s .E) (Settable t)
   unfolding G
   laws = record {
     gain = λ j k x y hasj hask lt back.
-        monotone (l .a) (value (best l ws j)) (at ws j) (value (best l ws k)) (at ws k) (x + l .lopt) (y + l .lopt) (at-le ws j k (omega arith)) (omega arith);
-    rise = λ j k hasj hask lt. at-le ws j k (omega arith);
+        monotone (t .a) (bestOf t j) (s .E j) (bestOf t k) (s .E k) (x + t .lines .lopt) (y + t .lines .lopt)
+        (ends-le s j k (hasj .from) (omega arith) (hask .within)) (omega arith);
+    rise = λ j k hasj hask lt. ends-le s j k (hasj .from) (omega arith) (hask .within);
   }
 
-  -- "bridged" of the queue rules is that of the laws
-  module _ (j k m : ℕ) (from : 1 ≤ j) (jk : j < k) (km : k < m) (near : line ws j m ≤ l .lmax) where
+  -- ---- "bridged" of the queue rules is that of the laws
+  module _ (j k m : ℕ) (from : 1 ≤ j) (jk : j < k) (km : k < m) (within : m ≤ t .lines .end)
+      (near : t .apart j m + t .lines .lmin ≤ t .lines .lmax) where
     abbrev Both : Type 0
-    Both = Bridged (l .lmax) (l .lopt) (l .a) (value (best l ws j)) (at ws j) (value (best l ws k)) (at ws k) (value (best l ws m)) (at ws m)
+    Both = Bridged (t .lines .lmax) (t .lines .lopt) (t .a) (bestOf t j) (s .E j) (bestOf t k) (s .E k) (bestOf t m) (s .E m)
 
-    side : (i : ℕ) → j ≤ i → i ≤ m → value (best l ws i) + penalty l (l .lmax - line ws i m) ≡ curve (l .a) (value (best l ws i)) (at ws i + l .lmax) (at ws m + l .lopt)
-    unfolding penalty
+    -- one side of the edge test, for j and for k
+    abbrev sideOf : ℕ → ℕ
+    sideOf i = curve (t .a) (bestOf t i) (s .E i + t .lines .lmax) (s .E m + t .lines .lopt)
+
+    side : (i : ℕ) → j ≤ i → i ≤ m → bestOf t i + t .lines .penalty (t .lines .lmax - t .apart i m) ≡ sideOf i
     side i ji im =
-        rw (line-at ws i m (omega arith) im)
-        (edge-side (l .lmax) (l .lopt) (l .a) (value (best l ws i)) (at ws i) (at ws m) (at-le ws i m im) (omega (arith, at-line ws j m from (omega arith), at-le ws j i ji)))
+        let e = apart-is i m (omega arith) im within in
+        let f : t .apart i m + t .lines .lmin ≤ t .lines .lmax =
+        omega (arith, near, apart-is j m from (omega arith) within, ends-le s j i from ji (omega arith)) in
+        ap (λ (n : ℕ). bestOf t i + n) (s .formula (t .lines .lmax - t .apart i m) (omega arith) (omega arith))
+        ∙ ap (λ (d : ℕ). bestOf t i + t .a * sqd (t .lines .lmax - d) (t .lines .lopt)) e
+        ∙ edge-side (t .lines .lmax) (t .lines .lopt) (t .a) (bestOf t i) (s .E i) (s .E m) (ends-le s i m (omega arith) im within) (omega arith)
 
-    edge-is : edge (textOf l ws) j k m ≡ leb (curve (l .a) (value (best l ws j)) (at ws j + l .lmax) (at ws m + l .lopt)) (curve (l .a) (value (best l ws k)) (at ws k + l .lmax) (at ws m + l .lopt))
-    unfolding edge textOf
+    edge-is : edge t j k m ≡ leb (sideOf j) (sideOf k)
+    unfolding edge
     edge-is = rw (side j (omega arith) (omega arith), side k (omega arith) (omega arith))
 
-    chord-is : chord (textOf l ws) j k m
-        ≡ leb ((at ws m - at ws k) * value (best l ws j) + (at ws k - at ws j) * value (best l ws m) + l .a * ((at ws k - at ws j) * (at ws m - at ws k) * (at ws m - at ws j)))
-        ((at ws m - at ws j) * value (best l ws k))
-    unfolding chord textOf
+    chord-is : chord t j k m
+        ≡ leb ((s .E m - s .E k) * bestOf t j + (s .E k - s .E j) * bestOf t m
+        + t .a * ((s .E k - s .E j) * (s .E m - s .E k) * (s .E m - s .E j)))
+        ((s .E m - s .E j) * bestOf t k)
+    unfolding chord
     chord-is =
-        rw (line-at ws j k from (omega arith), line-at ws k m (omega arith) (omega arith), line-at ws j m from (omega arith))
-        (ap (λ (n : ℕ). leb n ((at ws m - at ws j) * value (best l ws k))) (omega arith))
+        rw (
+          apart-is j k from (omega arith) (omega arith),
+          apart-is k m (omega arith) (omega arith) within,
+          apart-is j m from (omega arith) within,
+        )
+        (ap (λ (n : ℕ). leb n ((s .E m - s .E j) * bestOf t k)) (omega arith))
 
     -- a test of two holds exactly where both do
     both-true : (a b : Bool) → (a && b) ≡ true → (a ≡ true) × (b ≡ true)
     both-true true b e = (refl, e)
     both-true false b e = absurd (let z : _≡_ {A = ℕ} 0 1 = cc in omega arith)
 
-    bridged-both : bridged (textOf l ws) j k m ≡ true → Both
+    bridged-both : bridged t j k m ≡ true → Both
     bridged-both e =
-        let h = both-true (edge (textOf l ws) j k m) (chord (textOf l ws) j k m) e in
+        let h = both-true (edge t j k m) (chord t j k m) e in
         record { edge = leb-true _ _ (sym edge-is ∙ h .0); chord = leb-true _ _ (sym chord-is ∙ h .1) }
 
-    not-bridged : bridged (textOf l ws) j k m ≡ false → ¬ Both
+    not-bridged : bridged t j k m ≡ false → ¬ Both
     not-bridged e b =
-        let f : edge (textOf l ws) j k m ≡ true = edge-is ∙ le-leb _ _ (b .edge) in
-        let g : chord (textOf l ws) j k m ≡ true = chord-is ∙ le-leb _ _ (b .chord) in
+        let f : edge t j k m ≡ true = edge-is ∙ le-leb _ _ (b .edge) in
+        let g : chord t j k m ≡ true = chord-is ∙ le-leb _ _ (b .chord) in
         let z : _≡_ {A = Bool} true false = sym (rw (f, g)) ∙ e in
         let w : _≡_ {A = ℕ} 0 1 = cc in
         omega arith
 
     -- what the test says of the curves, at every position
-    module _ (allowed : T (all lengthHolds ws)) (within : m ≤ end ws) (x : ℕ) where
-      jk-ends : at ws j < at ws k
-      jk-ends = at-rise ws allowed j k from jk (omega arith)
-
-      km-ends : at ws k < at ws m
-      km-ends = at-rise ws allowed k m (omega arith) km within
-
-      pub bridged-useless : bridged (textOf l ws) j k m ≡ true → Useless (G l ws) (at ws) (l .lmax) x j k m
+    module _ (x : ℕ) where
+      pub bridged-useless : bridged t j k m ≡ true → Useless (G s) (s .E) (t .lines .lmax) x j k m
       unfolding G
       bridged-useless e y yx h =
-          bridged-gives (l .lmax) (l .lopt) (l .a) (value (best l ws j)) (at ws j) (value (best l ws k)) (at ws k) (value (best l ws m)) (at ws m) y
-          jk-ends km-ends (bridged-both e) h
+          bridged-gives (t .lines .lmax) (t .lines .lopt) (t .a) (bestOf t j) (s .E j) (bestOf t k) (s .E k) (bestOf t m) (s .E m) y
+          (s .ends-rise j k from jk (omega arith)) (s .ends-rise k m (omega arith) km within) (bridged-both e) h
 
-      pub bridged-ordered : bridged (textOf l ws) j k m ≡ false → Ordered (G l ws) (at ws) (l .lmax) x j k m
+      pub bridged-ordered : bridged t j k m ≡ false → Ordered (G s) (s .E) (t .lines .lmax) x j k m
       unfolding G
       bridged-ordered e y yx live h =
-          not-bridged-gives (l .lmax) (l .lopt) (l .a) (value (best l ws j)) (at ws j) (value (best l ws k)) (at ws k) (value (best l ws m)) (at ws m) y
-          jk-ends km-ends live (not-bridged e) h
+          not-bridged-gives (t .lines .lmax) (t .lines .lopt) (t .a) (bestOf t j) (s .E j) (bestOf t k) (s .E k) (bestOf t m) (s .E m) y
+          (s .ends-rise j k from jk (omega arith)) (s .ends-rise k m (omega arith) km within) live (not-bridged e) h

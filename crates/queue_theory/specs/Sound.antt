@@ -5,73 +5,70 @@ use mathlib.Core.Path.{_≡_, refl}
 use mathlib.Core.Logic.{⊎-elim}
 use mathlib.Core.List.{List, [], _∷_, reverse}
 use native.Mathlib.Omega.{arith}
-use lib.ListN.{length}
 use Rattle.laws.specs.Number.{split, tested}
 use Rattle.laws.specs.Members.{Every, every-reverse, Threes}
 use Rattle.laws.specs.Queue.{Ordered, Leads, Queue, Adding, nothing, later, pass, drop-long, come, drop-worse, pop-worse, pop-useless}
 use Rattle.laws.specs.Queue as Laws
-use Rattle.paper.specs.declared.Limits.{Limits}
-use Rattle.paper.specs.Allowed.{Passed, limitsHold}
-use Rattle.paper_theory.specs.Ranges.{ranges}
 use Rattle.paper.specs.Moves.{Taken}
-use Rattle.paper.specs.Paragraph.{line}
-use Rattle.paper.specs.QueueRules.{Standing, textOf, F, bridged, dropLong, popWorse, popBridged, add, consider, candidates, dropWorse, settled, atStart, afterStarts, queueAt}
-use Rattle.queue_theory.specs.Turns.{dropLong-more, dropLong-stop, popWorse-more, popWorse-stop, popBridged-more, popBridged-stop, candidates-more, candidates-stop, dropWorse-more, dropWorse-stop, consider-gives}
+use Rattle.paper.specs.QueueRules.{Text, Standing, F, bridged, dropLong, popWorse, popBridged, add, consider, candidates, dropWorse}
+use Rattle.paper.specs.QueueRules.{settled, atStart, afterStarts}
+use Rattle.queue_theory.specs.Scales.{Scaled}
+use Rattle.queue_theory.specs.Turns.{dropLong-more, dropLong-stop, popWorse-more, popWorse-stop, popBridged-more, popBridged-stop}
+use Rattle.queue_theory.specs.Turns.{candidates-more, candidates-stop, dropWorse-more, dropWorse-stop, consider-gives}
 use Rattle.queue_theory.specs.Leaves.{popWorse-every}
-use Rattle.queue_theory.specs.Ready.{Live, live-apart, Held, Ready, dropLong-held, considered-live, consider-held, candidates-held, ready, ready-at}
-use Rattle.queue_theory.specs.Curves.{at, at-le, at-line, Break, G, F-is, laws, bridged-useless, bridged-ordered}
+use Rattle.queue_theory.specs.Ready.{Measured, measured-apart, Held, Stood, dropLong-held, considered-above, considered-live, consider-held}
+use Rattle.queue_theory.specs.Ready.{candidates-held, stood, stood-before}
+use Rattle.queue_theory.specs.Curves.{Settable, G, F-is, laws, bridged-useless, bridged-ordered}
 
 -- the queue at start i, with every candidate from lo on considered
-abbrev pub Sound : Limits → List ℕ → ℕ → ℕ → List ℕ → Type 0
-Sound l ws i lo q = Queue (G l ws) (at ws) (l .lmax) (Break l ws) (at ws i) lo q
+abbrev pub Sound : {t : Text} → Scaled t → ℕ → ℕ → List ℕ → Type 0
+Sound {t} s i lo q = Queue (G s) (s .E) (t .lines .lmax) (Settable t) (s .T i) lo q
 
 -- the same from rear to front, while candidate j waits
-abbrev Waits : Limits → List ℕ → ℕ → ℕ → List ℕ → Type 0
-Waits l ws i j q = Adding (G l ws) (at ws) (l .lmax) (Break l ws) (at ws i) j q
+abbrev Waits : {t : Text} → Scaled t → ℕ → ℕ → List ℕ → Type 0
+Waits {t} s i j q = Adding (G s) (s .E) (t .lines .lmax) (Settable t) (s .T i) j q
 
-module _ (l : Limits) (ws : List ℕ) (passed : Passed (limitsHold l) ws) (i : ℕ) (start : 1 ≤ i) where
+module _ {t : Text} (s : Scaled t) {i : ℕ} (start : 1 ≤ i) where
   -- F at two breaks is G at two breaks
-  to-G : (j k : ℕ) → i ≤ j → i ≤ k → F (textOf l ws) i j ≤ F (textOf l ws) i k → G l ws j (at ws i) ≤ G l ws k (at ws i)
-  to-G j k ij ik h = omega (arith, F-is l ws i j start ij, F-is l ws i k start ik)
+  to-G : {j k : ℕ} → Measured t i j → Measured t i k → F t i j ≤ F t i k → G s j (s .T i) ≤ G s k (s .T i)
+  to-G {j} {k} u v h = omega (arith, F-is s i j start u, F-is s i k start v)
 
-  live-break : (k : ℕ) → Live l ws i k → Break l ws k
-  live-break k v = record { from = omega (arith, v .above); within = v .within; has = v .has }
+  measured-settable : {k : ℕ} → Measured t i k → Settable t k
+  measured-settable v = record { from = omega (arith, v .above); within = v .within; has = v .has }
 
   -- ---- rule 1
-  dropLong-sound : (lo : ℕ) (q : List ℕ) → i ≤ lo → Sound l ws i lo q → Sound l ws i lo (dropLong (textOf l ws) i q .stands)
-  unfolding textOf dropLong
-  dropLong-sound lo [] low u = u
-  dropLong-sound lo (h ∷ q) low u =
+  dropLong-sound : (lo : ℕ) (q : List ℕ) → Every (Measured t (i + 1)) q → Sound s i lo q → Sound s i lo (dropLong t i q .stands)
+  unfolding dropLong
+  dropLong-sound lo [] v u = u
+  dropLong-sound lo (h ∷ q) v u =
       ⊎-elim
-      (λ short. rw (dropLong-stop (textOf l ws) i h q short) u)
-      (λ long. rw (dropLong-more (textOf l ws) i h q long)
-      (dropLong-sound lo q low (drop-long (omega (arith, at-line ws i h start (omega (arith, u .above .0)))) u)))
-      (split (line ws i h) (l .lmax))
+      (λ short. rw (dropLong-stop t i h q short) u)
+      (λ long. rw (dropLong-more t i h q long)
+      (dropLong-sound lo q (v .1) (drop-long (omega (arith, s .line i h start (omega (arith, v .0 .above)) (v .0 .within))) u)))
+      (split (t .lines .line i h) (t .lines .lmax))
 
   -- ---- rule 2
-  popWorse-sound : (j : ℕ) (q : List ℕ) → i ≤ j → Waits l ws i j q → Waits l ws i j (popWorse (textOf l ws) i j q .stands)
+  popWorse-sound : (j : ℕ) (q : List ℕ) → Measured t i j → Every (Measured t i) q → Waits s i j q → Waits s i j (popWorse t i j q .stands)
   unfolding popWorse
-  popWorse-sound j [] ij u = u
-  popWorse-sound j (k ∷ q) ij u =
+  popWorse-sound j [] new live u = u
+  popWorse-sound j (k ∷ q) new live u =
       ⊎-elim
-      (λ worse. rw (popWorse-more (textOf l ws) i j k q worse)
-      (popWorse-sound j q ij (pop-worse (laws l ws) (to-G j k ij (omega (arith, u .above .0)) worse) u)))
-      (λ better. rw (popWorse-stop (textOf l ws) i j k q better) u)
-      (split (F (textOf l ws) i j) (F (textOf l ws) i k))
+      (λ worse. rw (popWorse-more t i j k q worse)
+      (popWorse-sound j q new (live .1) (pop-worse (laws s) (to-G new (live .0) worse) u)))
+      (λ better. rw (popWorse-stop t i j k q better) u)
+      (split (F t i j) (F t i k))
 
-  popBridged-sound : (j : ℕ) (q : List ℕ) → Live l ws i j → Every (Live l ws i) q → Waits l ws i j q →
-      Waits l ws i j (popBridged (textOf l ws) j q .stands) × Threes (Ordered (G l ws) (at ws) (l .lmax) (at ws i)) (j ∷ popBridged (textOf l ws) j q .stands)
+  popBridged-sound : (j : ℕ) (q : List ℕ) → Measured t i j → Every (Measured t i) q → Waits s i j q →
+      Waits s i j (popBridged t j q .stands) × Threes (Ordered (G s) (s .E) (t .lines .lmax) (s .T i)) (j ∷ popBridged t j q .stands)
   unfolding popBridged
   popBridged-sound j [] new live u = (u, tt)
   popBridged-sound j (k ∷ []) new live u = (u, tt)
   popBridged-sound j (k ∷ m ∷ q) new live u =
       ⊎-elim
-      (λ e. rw (popBridged-more (textOf l ws) j k m q e)
-      (popBridged-sound j (m ∷ q) new (live .1)
-      (pop-useless (laws l ws) (bridged-useless l ws j k m from jk km near (passed .lengths) (live .1 .0 .within) (at ws i) e) u)))
-      (λ e. rw (popBridged-stop (textOf l ws) j k m q e)
-      (u, (bridged-ordered l ws j k m from jk km near (passed .lengths) (live .1 .0 .within) (at ws i) e, u .order)))
-      (tested (bridged (textOf l ws) j k m))
+      (λ e. rw (popBridged-more t j k m q e)
+      (popBridged-sound j (m ∷ q) new (live .1) (pop-useless (laws s) (bridged-useless s j k m from jk km within near (s .T i) e) u)))
+      (λ e. rw (popBridged-stop t j k m q e) (u, (bridged-ordered s j k m from jk km within near (s .T i) e, u .order)))
+      (tested (bridged t j k m))
     where
       from : 1 ≤ j
       from = omega (arith, new .above)
@@ -82,86 +79,82 @@ module _ (l : Limits) (ws : List ℕ) (passed : Passed (limitsHold l) ws) (i : �
       km : k < m
       km = u .rises .0 .0
 
-      near : line ws j m ≤ l .lmax
-      near = omega (arith, live-apart l ws i j m start (omega arith) new (live .1 .0))
+      within : m ≤ t .lines .end
+      within = live .1 .0 .within
 
-  add-sound : (j lo : ℕ) (q : List ℕ) → j + 1 ≡ lo → Live l ws i j → Every (Live l ws i) q → Sound l ws i lo q → Sound l ws i j (add (textOf l ws) i j q .stands)
+      near : t .apart j m + t .lines .lmin ≤ t .lines .lmax
+      near = measured-apart s start (omega arith) new (live .1 .0)
+
+  add-sound : (j lo : ℕ) (q : List ℕ) → j + 1 ≡ lo → Measured t i j → Every (Measured t i) q → Sound s i lo q →
+      Sound s i j (add t i j q .stands)
   unfolding add
   add-sound j lo q e new live u =
-      let r = popWorse (textOf l ws) i j (reverse q) .stands in
-      let a = popWorse-sound j (reverse q) (omega (arith, new .above)) (come e (live-break j new) u) in
-      let b = popBridged-sound j r new (popWorse-every (textOf l ws) (Live l ws i) i j (reverse q) (every-reverse (Live l ws i) q live)) a in
+      let r = popWorse t i j (reverse q) .stands in
+      let turned = every-reverse (Measured t i) q live in
+      let a = popWorse-sound j (reverse q) new turned (come e (measured-settable new) u) in
+      let b = popBridged-sound j r new (popWorse-every t (Measured t i) i j (reverse q) turned) a in
       Laws.add (b .1) (b .0)
 
-  module _ (positive : 1 ≤ l .lmin) where
-    consider-sound : (j lo : ℕ) (q : List ℕ) → j + 1 ≡ lo → Held l ws i j q → l .lmin ≤ line ws i j → Sound l ws i lo q →
-        Sound l ws i j (consider (textOf l ws) i j q .stands)
-    unfolding textOf
-    consider-sound j lo q e h reach u =
-        consider-gives (textOf l ws) i j q (λ (r : Taken (List ℕ)). Sound l ws i j (r .stands))
-        (λ out. pass e (λ y yx b live. out (omega (arith, at-line ws i j start (h .near))) (b .has)) u)
-        (λ high has. add-sound j lo q e (considered-live l ws i j q start positive h reach high has) (h .live) u)
+  consider-sound : (j lo : ℕ) (q : List ℕ) → j + 1 ≡ lo → Held t i j q → t .lines .lmin ≤ t .lines .line i j → Sound s i lo q →
+      Sound s i j (consider t i j q .stands)
+  consider-sound j lo q e h reach u =
+      consider-gives t i j q (λ (r : Taken (List ℕ)). Sound s i j (r .stands))
+      (λ out. pass e (λ y yx b live. out (omega (arith, s .line i j start (considered-above s start h reach) (h .within))) (b .has)) u)
+      (λ high has. add-sound j lo q e (considered-live s start h reach high has) (h .live) u)
 
-    candidates-sound : (c : ℕ) (q : List ℕ) → Held l ws i c q → Sound l ws i (c + 1) q →
-        Sound l ws i (candidates (textOf l ws) i c q .stands .candidate + 1) (candidates (textOf l ws) i c q .stands .queue)
-    unfolding textOf
-    candidates-sound zero q h u = absurd (omega (arith, h .near))
-    candidates-sound (suc c) q h u =
-        ⊎-elim
-        (λ reach. let f : c + 1 ≡ suc c = omega arith in
-        rw (candidates-more (textOf l ws) i c (suc c) q f reach)
-        (candidates-sound c (consider (textOf l ws) i (suc c) q .stands) (consider-held l ws i (suc c) q start positive h reach c f)
-        (rw f (consider-sound (suc c) (suc c + 1) q refl h reach u))))
-        (λ short. rw (candidates-stop (textOf l ws) i (suc c) q short) u)
-        (split (l .lmin) (line ws i (suc c)))
+  candidates-sound : (c : ℕ) (q : List ℕ) → Held t i c q → Sound s i (c + 1) q →
+      Sound s i (candidates t i c q .stands .candidate + 1) (candidates t i c q .stands .queue)
+  candidates-sound zero q h u = absurd (omega (arith, h .near))
+  candidates-sound (suc c) q h u =
+      ⊎-elim
+      (λ reach. let f : c + 1 ≡ suc c = omega arith in
+      rw (candidates-more t i c (suc c) q f reach)
+      (candidates-sound c (consider t i (suc c) q .stands) (consider-held s start h reach c f)
+      (rw f (consider-sound (suc c) (suc c + 1) q refl h reach u))))
+      (λ short. rw (candidates-stop t i (suc c) q short) u)
+      (split (t .lines .lmin) (t .lines .line i (suc c)))
 
   -- ---- rule 3
-  dropWorse-sound : (lo : ℕ) (q : List ℕ) → i ≤ lo → Sound l ws i lo q →
-      Sound l ws i lo (dropWorse (textOf l ws) i q .stands) × Leads (G l ws) (at ws i) (dropWorse (textOf l ws) i q .stands)
+  dropWorse-sound : (lo : ℕ) (q : List ℕ) → Every (Measured t i) q → Sound s i lo q →
+      Sound s i lo (dropWorse t i q .stands) × Leads (G s) (s .T i) (dropWorse t i q .stands)
   unfolding dropWorse
-  dropWorse-sound lo [] low u = (u, tt)
-  dropWorse-sound lo (h ∷ []) low u = (u, tt)
-  dropWorse-sound lo (h ∷ s ∷ q) low u =
+  dropWorse-sound lo [] live u = (u, tt)
+  dropWorse-sound lo (h ∷ []) live u = (u, tt)
+  dropWorse-sound lo (h ∷ k ∷ q) live u =
       ⊎-elim
-      (λ worse. rw (dropWorse-more (textOf l ws) i h s q worse)
-      (dropWorse-sound lo (s ∷ q) low
-      (drop-worse (laws l ws) (to-G s h (omega (arith, u .above .1 .0)) (omega (arith, u .above .0)) worse) u)))
-      (λ better. rw (dropWorse-stop (textOf l ws) i h s q better)
-      (u, omega (arith, F-is l ws i h start (omega (arith, u .above .0)), F-is l ws i s start (omega (arith, u .above .1 .0)))))
-      (split (F (textOf l ws) i s) (F (textOf l ws) i h))
+      (λ worse. rw (dropWorse-more t i h k q worse)
+      (dropWorse-sound lo (k ∷ q) (live .1) (drop-worse (laws s) (to-G (live .1 .0) (live .0) worse) u)))
+      (λ better. rw (dropWorse-stop t i h k q better)
+      (u, omega (arith, F-is s i h start (live .0), F-is s i k start (live .1 .0))))
+      (split (F t i k) (F t i h))
 
   -- ---- all rules of a start
-  pub atStart-sound : (s : Standing) → Ready l ws i s → Sound l ws (i + 1) (s .candidate + 1) (s .queue) →
-      Sound l ws i (atStart (textOf l ws) i s .stands .candidate + 1) (atStart (textOf l ws) i s .stands .queue)
-      × Leads (G l ws) (at ws i) (atStart (textOf l ws) i s .stands .queue)
+  atStart-sound : (u : Standing) → i + 1 ≤ t .lines .end → Stood t (i + 1) u → Sound s (i + 1) (u .candidate + 1) (u .queue) →
+      Sound s i (atStart t i u .stands .candidate + 1) (atStart t i u .stands .queue) × Leads (G s) (s .T i) (atStart t i u .stands .queue)
   unfolding atStart settled
-  atStart-sound s r u =
-      let positive : 1 ≤ l .lmin = omega (arith, ranges l (passed .limits)) in
-      let q = dropLong (textOf l ws) i (s .queue) .stands in
-      let m = candidates (textOf l ws) i (s .candidate) q .stands in
-      let h = dropLong-held l ws i (s .candidate) (s .queue) start (r .held) in
-      let v = dropLong-sound (s .candidate + 1) (s .queue) (omega (arith, r .held .near)) (later (at-le ws i (i + 1) (omega arith)) u) in
-      dropWorse-sound (m .candidate + 1) (m .queue) (omega (arith, candidates-held l ws i start positive (s .candidate) q h .0 .near))
-      (candidates-sound positive (s .candidate) q h v)
+  atStart-sound u inside r v =
+      let q = dropLong t i (u .queue) .stands in
+      let m = candidates t i (u .candidate) q .stands in
+      let h = dropLong-held s start (u .candidate) (u .queue) (r .held) in
+      let w = dropLong-sound (u .candidate + 1) (u .queue) (r .held .live) (later (s .starts-rise i (i + 1) start (omega arith) inside) v) in
+      dropWorse-sound (m .candidate + 1) (m .queue) (candidates-held s start (u .candidate) q h .held .live)
+      (candidates-sound (u .candidate) q h w)
 
 -- ---- all starts
-module _ (l : Limits) (ws : List ℕ) (passed : Passed (limitsHold l) ws) where
-  sound-first : Sound l ws (length ws + 1) (length ws + 1 + 1) []
-  sound-first = nothing (λ c low b. omega (arith, b .within))
-
-  sound : (d : ℕ) → d ≤ length ws →
-      Sound l ws (length ws - d + 1) (afterStarts (textOf l ws) (length ws) d .stands .candidate + 1) (afterStarts (textOf l ws) (length ws) d .stands .queue)
+module _ {t : Text} (s : Scaled t) (n : ℕ) (size : t .lines .end ≡ n + 1) where
+  sound : (d : ℕ) → d ≤ n → Sound s (n - d + 1) (afterStarts t n d .stands .candidate + 1) (afterStarts t n d .stands .queue)
   unfolding afterStarts
-  sound zero h = let e : length ws - 0 ≡ length ws = omega arith in rw e sound-first
+  sound zero h = nothing (λ c low b. omega (arith, b .within, size))
   sound (suc d) h =
-      let e : length ws - suc d + 1 ≡ length ws - d = omega arith in
+      let e : n - suc d + 1 ≡ n - d = omega arith in
       rw e
-      (atStart-sound l ws passed (length ws - d) (omega arith) (afterStarts (textOf l ws) (length ws) d .stands) (ready l ws passed d (omega arith)) (sound d (omega arith)) .0)
+      (atStart-sound s (omega arith) (afterStarts t n d .stands) (omega (arith, size)) (stood s n size d (omega arith)) (sound d (omega arith)) .0)
 
   -- after start i
-  pub sound-at : (i : ℕ) → 1 ≤ i → i ≤ length ws →
-      Sound l ws i (queueAt l ws i .stands .candidate + 1) (queueAt l ws i .stands .queue) × Leads (G l ws) (at ws i) (queueAt l ws i .stands .queue)
-  unfolding queueAt
-  sound-at i start h =
-      let e : length ws - (length ws - i) ≡ i = omega arith in
-      atStart-sound l ws passed i start (afterStarts (textOf l ws) (length ws) (length ws - i) .stands) (ready-at l ws passed i h) (rw e at (sound (length ws - i) (omega arith)))
+  pub sound-after : (i : ℕ) → 1 ≤ i → i ≤ n → (u : Standing) → u ≡ atStart t i (afterStarts t n (n - i) .stands) .stands →
+      Sound s i (u .candidate + 1) (u .queue) × Leads (G s) (s .T i) (u .queue)
+  sound-after i start h u e =
+      let f : n - (n - i) ≡ i = omega arith in
+      rw e
+      (atStart-sound s start (afterStarts t n (n - i) .stands) (omega (arith, size)) (stood-before s n size i h)
+      (rw f at (sound (n - i) (omega arith))) )
