@@ -110,9 +110,9 @@ unfoldable pub afterStarts : Text → ℕ → ℕ → Taken Standing
 afterStarts t n zero = still (record { queue = []; candidate = n + 1 })
 afterStarts t n (suc d) = joined (afterStarts t n d) (atStart t (n - d))
 
--- start i: its moves, and what stands afterwards
-unfoldable pub queueAt : Limits → List ℕ → ℕ → Taken Standing
-queueAt l ws i = atStart (textOf l ws) i (afterStarts (textOf l ws) (length ws) (length ws - i) .stands)
+-- start i of n: its moves, and what stands afterwards
+unfoldable pub queueAt : Text → ℕ → ℕ → Taken Standing
+queueAt t n i = atStart t i (afterStarts t n (n - i) .stands)
 
 -- the moves of a paragraph
 unfoldable pub queueMoves : Limits → List ℕ → List Move

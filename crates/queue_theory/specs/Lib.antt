@@ -6,3 +6,4 @@ pub mod Ready
 pub mod Curves
 pub mod Sound
 pub mod Agree
+pub mod Front

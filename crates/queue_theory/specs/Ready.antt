@@ -10,7 +10,7 @@ use Rattle.laws.specs.Number.{split}
 use Rattle.laws.specs.Cost.{Has}
 use Rattle.laws.specs.Members.{Every, every-map, every-map2, Falls}
 use Rattle.paper.specs.Moves.{Taken}
-use Rattle.paper.specs.QueueRules.{Text, Standing, dropLong, consider, candidates, dropWorse, settled, atStart, afterStarts}
+use Rattle.paper.specs.QueueRules.{Text, Standing, dropLong, consider, candidates, dropWorse, settled, atStart, afterStarts, queueAt}
 use Rattle.queue_theory.specs.Scales.{Scaled, line-longer, line-shorter, line-joins, line-some}
 use Rattle.queue_theory.specs.Turns.{dropLong-more, dropLong-stop, candidates-more, candidates-stop, consider-gives}
 use Rattle.queue_theory.specs.Leaves.{add-every, add-falls, dropLong-every, dropWorse-every, dropLong-pairs, dropWorse-pairs}
@@ -153,7 +153,8 @@ module _ {t : Text} (s : Scaled t) (n : ℕ) (size : t .lines .end ≡ n + 1) wh
   stood-before i h = let e : n - (n - i) ≡ i = omega arith in rw e at (stood (n - i) (omega arith))
 
   -- after start i
-  pub stood-after : (i : ℕ) → 1 ≤ i → i ≤ n → Stood t i (atStart t i (afterStarts t n (n - i) .stands) .stands)
+  pub stood-after : (i : ℕ) → 1 ≤ i → i ≤ n → Stood t i (queueAt t n i .stands)
+  unfolding queueAt
   stood-after i start h = atStart-stood s start (afterStarts t n (n - i) .stands) (stood-before i h)
 
   -- the moves of the first d starts

@@ -11,7 +11,7 @@ use Rattle.laws.specs.Queue.{Ordered, Leads, Queue, Adding, nothing, later, pas
 use Rattle.laws.specs.Queue as Laws
 use Rattle.paper.specs.Moves.{Taken}
 use Rattle.paper.specs.QueueRules.{Text, Standing, F, bridged, dropLong, popWorse, popBridged, add, consider, candidates, dropWorse}
-use Rattle.paper.specs.QueueRules.{settled, atStart, afterStarts}
+use Rattle.paper.specs.QueueRules.{settled, atStart, afterStarts, queueAt}
 use Rattle.queue_theory.specs.Scales.{Scaled}
 use Rattle.queue_theory.specs.Turns.{dropLong-more, dropLong-stop, popWorse-more, popWorse-stop, popBridged-more, popBridged-stop}
 use Rattle.queue_theory.specs.Turns.{candidates-more, candidates-stop, dropWorse-more, dropWorse-stop, consider-gives}
@@ -151,10 +151,10 @@ module _ {t : Text} (s : Scaled t) (n : ℕ) (size : t .lines .end ≡ n + 1) wh
       (atStart-sound s (omega arith) (afterStarts t n d .stands) (omega (arith, size)) (stood s n size d (omega arith)) (sound d (omega arith)) .0)
 
   -- after start i
-  pub sound-after : (i : ℕ) → 1 ≤ i → i ≤ n → (u : Standing) → u ≡ atStart t i (afterStarts t n (n - i) .stands) .stands →
-      Sound s i (u .candidate + 1) (u .queue) × Leads (G s) (s .T i) (u .queue)
-  sound-after i start h u e =
+  pub sound-after : (i : ℕ) → 1 ≤ i → i ≤ n →
+      Sound s i (queueAt t n i .stands .candidate + 1) (queueAt t n i .stands .queue) × Leads (G s) (s .T i) (queueAt t n i .stands .queue)
+  unfolding queueAt
+  sound-after i start h =
       let f : n - (n - i) ≡ i = omega arith in
-      rw e
-      (atStart-sound s start (afterStarts t n (n - i) .stands) (omega (arith, size)) (stood-before s n size i h)
-      (rw f at (sound (n - i) (omega arith))) )
+      atStart-sound s start (afterStarts t n (n - i) .stands) (omega (arith, size)) (stood-before s n size i h)
+      (rw f at (sound (n - i) (omega arith)))
