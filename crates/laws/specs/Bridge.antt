@@ -111,7 +111,8 @@ pub no-edge-gives : (lmax lopt A gj ej gk ek el x : ℕ) → ej ≤ ek → el �
     curve A gj ej (x + lopt) ≤ curve A gk ek (x + lopt) → ⊥
 no-edge-gives lmax lopt A gj ej gk ek el x jk live edge le =
     edge
-    (monotone A gj (ej + lmax) gk (ek + lmax) (x + lopt + lmax) (el + lopt) (omega arith) (omega arith) (to-shift A gj ej gk ek (x + lopt) lmax le))
+    (monotone A gj (ej + lmax) gk (ek + lmax) (x + lopt + lmax) (el + lopt) (omega arith) (omega arith)
+    (to-shift A gj ej gk ek (x + lopt) lmax le))
 
 -- ---- bridged: both
 pub record Bridged (lmax lopt A gj ej gk ek gl el : ℕ) : Type 0 where
@@ -120,7 +121,8 @@ pub record Bridged (lmax lopt A gj ej gk ek gl el : ℕ) : Type 0 where
 
 -- Not bridged: while l is live, j no worse than k implies k better than l.
 pub not-bridged-gives : (lmax lopt A gj ej gk ek gl el x : ℕ) → ej < ek → ek < el → el ≤ x + lmax →
-    ¬ Bridged lmax lopt A gj ej gk ek gl el → curve A gj ej (x + lopt) ≤ curve A gk ek (x + lopt) → curve A gk ek (x + lopt) < curve A gl el (x + lopt)
+    ¬ Bridged lmax lopt A gj ej gk ek gl el → curve A gj ej (x + lopt) ≤ curve A gk ek (x + lopt) → curve A gk ek (x + lopt)
+    < curve A gl el (x + lopt)
 not-bridged-gives lmax lopt A gj ej gk ek gl el x jk kl live not le =
     ⊎-elim
     (λ edge. no-chord-gives A gj ej gk ek gl el (x + lopt) jk kl (λ chord. not (record { edge = edge; chord = chord })) le)

@@ -77,7 +77,8 @@ next-over p b tie i none step h = absurd h
 next-over p b tie i (some v) step h =
     ⊎-elim
     (λ f. found p b tie i (some v) step tt j f)
-    (λ m. absurd (m .fails k (ch .rises) (choice-in p b tie i (some v) step k ch) (choice-gives p b tie i (some v) step k ch (step .reached .2))))
+    (λ m. absurd (m .fails k (ch .rises) (choice-in p b tie i (some v) step k ch)
+    (choice-gives p b tie i (some v) step k ch (step .reached .2))))
     (pick-is tie (gives? p b (some v) i) (suc i) (p .end - i))
   where
     j : ℕ
@@ -137,7 +138,8 @@ module _ (p : Problem) (tie : ℕ → Tie) (f : ℕ → ℕ)
 
   follow-from : (d i : ℕ) → i < p .end → p .end ≤ i + d → Has (best p i) → Follows p tie i (follow (p .end) f d i)
   follow-from zero i lt le h = absurd (omega arith)
-  follow-from (suc d) i lt le h = go (leb (p .end) (f i)) refl (chosen i lt h) (λ n g. follow-from d (f i) g (omega (arith, n .choice .rises)) (next-has i (f i) n))
+  follow-from (suc d) i lt le h = go (leb (p .end) (f i)) refl (chosen i lt h)
+      (λ n g. follow-from d (f i) g (omega (arith, n .choice .rises)) (next-has i (f i) n))
     where
       go : (b : Bool) → leb (p .end) (f i) ≡ b → Next p (tie i) i (f i) →
           (Next p (tie i) i (f i) → f i < p .end → Follows p tie (f i) (follow (p .end) f d (f i))) →
@@ -156,11 +158,13 @@ pub record Cheapest (p : Problem) (i v : ℕ) (js : List ℕ) : Type 0 where
   pub costs : total p i js ≡ v
   pub least : (ks : List ℕ) → Admissible p i ks → v ≤ total p i ks
 
-pub follows-cheapest : (p : Problem) → Monotone p → (tie : ℕ → Tie) (i v : ℕ) (js : List ℕ) → best p i ≡ some v → Follows p tie i js → Cheapest p i v js
+pub follows-cheapest : (p : Problem) → Monotone p → (tie : ℕ → Tie) (i v : ℕ) (js : List ℕ) → best p i ≡ some v → Follows p tie i js →
+    Cheapest p i v js
 follows-cheapest p mono tie i v js e f = record {
   admissible = follows-admissible p tie i js f;
   costs = some-inj (sym (follows-total p tie i js f) ∙ e);
-  least = λ ks a. subst (λ (c : Cost). c ≼ some (total p i ks)) e (best-is p mono i (omega (arith, admissible-early p i ks a)) .early (admissible-early p i ks a) .low ks a);
+  least = λ ks a. subst (λ (c : Cost). c ≼ some (total p i ks)) e
+      (best-is p mono i (omega (arith, admissible-early p i ks a)) .early (admissible-early p i ks a) .low ks a);
 }
 
 -- There is no best exactly where there is no admissible setting.

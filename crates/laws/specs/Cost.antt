@@ -127,7 +127,8 @@ module _ {S : Type 0} (P : S → Type 0) (v : S → Cost) where
 pub least-wider : {S : Type 0} (P Q : S → Type 0) (v : S → Cost) → ((s : S) → P s → Q s) → (c d : Cost) →
     Least P v c → Least Q v d → d ≼ c
 least-wider P Q v f none d p q = tt
-least-wider P Q v f (some t) d p q = subst (λ (z : Cost). d ≼ z) (p .reached .2) (q .low (p .reached .0) (f (p .reached .0) (p .reached .1)))
+least-wider P Q v f (some t) d p q = subst (λ (z : Cost). d ≼ z) (p .reached .2)
+    (q .low (p .reached .0) (f (p .reached .0) (p .reached .1)))
 
 pub reached-map : {S : Type 0} (P Q : S → Type 0) (v : S → Cost) → ((s : S) → P s → Q s) → (c : Cost) → Reached P v c → Reached Q v c
 reached-map P Q v f none r = tt

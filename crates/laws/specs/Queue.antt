@@ -7,7 +7,8 @@ use mathlib.Core.Logic.{_⊎_, inl, inr, ⊎-elim}
 use mathlib.Core.List.{List, [], _∷_, reverse}
 use native.Mathlib.Omega.{arith}
 use Rattle.laws.specs.Number.{split}
-use Rattle.laws.specs.Members.{Every, every-map, every-reverse, Any, any-map, any-every, any-gives, any-reverse, Falls, Rises, pairs-reverse, Threes, threes-map, threes-tail, threes-reverse}
+use Rattle.laws.specs.Members.{Every, every-map, every-reverse, Any, any-map, any-every, any-gives, any-reverse, Falls, Rises}
+use Rattle.laws.specs.Members.{pairs-reverse, Threes, threes-map, threes-tail, threes-reverse}
 
 abbrev pub Live : (ℕ → ℕ) → ℕ → ℕ → ℕ → Type 0
 Live E m c x = E c ≤ x + m
@@ -76,11 +77,15 @@ module _ (F : ℕ → ℕ → ℕ) (E : ℕ → ℕ) (m : ℕ) where
   nearer laws y j k hasj hask lt live le = (omega (arith, laws .rise j k hasj hask lt), inr (le, omega arith))
 
   -- In a queue whose members are live, each is better than the next once the front is.
-  climb : (x h : ℕ) (q : List ℕ) → Threes (λ (a b c : ℕ). Ordered F E m x c b a) (h ∷ q) → Every (λ (k : ℕ). Live E m k x) (h ∷ q) → Leads F x (h ∷ q) →
+  climb : (x h : ℕ) (q : List ℕ) → Threes (λ (a b c : ℕ). Ordered F E m x c b a) (h ∷ q) → Every (λ (k : ℕ). Live E m k x) (h ∷ q) →
+      Leads F x (h ∷ q) →
       Every (λ (k : ℕ). F h x < F k x) q
   climb x h [] order live lt = tt
-  climb x h (s ∷ q) order live lt =
-      (lt, every-map (λ (k : ℕ). F s x < F k x) (λ (k : ℕ). F h x < F k x) (λ k g. omega arith) q (climb x s q (threes-tail (λ (a b c : ℕ). Ordered F E m x c b a) h (s ∷ q) order) (live .1) (next q order)))
+  climb x h (s ∷ q) order live lt = (
+    lt,
+    every-map (λ (k : ℕ). F s x < F k x) (λ (k : ℕ). F h x < F k x) (λ k g. omega arith) q
+        (climb x s q (threes-tail (λ (a b c : ℕ). Ordered F E m x c b a) h (s ∷ q) order) (live .1) (next q order)),
+  )
     where
       next : (q : List ℕ) → Threes (λ (a b c : ℕ). Ordered F E m x c b a) (h ∷ s ∷ q) → Leads F x (s ∷ q)
       next [] order = tt
@@ -97,13 +102,15 @@ module _ {F : ℕ → ℕ → ℕ} {E : ℕ → ℕ} {m : ℕ} {Ok : ℕ → Typ
   later {x} {y} {q = q} le u = record {
     falls = u .falls;
     ok = u .ok;
-    order = threes-map (λ (a b c : ℕ). Ordered F E m x c b a) (λ (a b c : ℕ). Ordered F E m y c b a) (λ a b c h z zy. h z (omega arith)) q (u .order);
+    order = threes-map (λ (a b c : ℕ). Ordered F E m x c b a) (λ (a b c : ℕ). Ordered F E m y c b a) (λ a b c h z zy. h z (omega arith)) q
+        (u .order);
     above = u .above;
     cover = λ z c zy. u .cover z c (omega arith);
   }
 
   -- Pass: a candidate that will never be live and have a cost
-  pub pass : {x lo n : ℕ} {q : List ℕ} → n + 1 ≡ lo → ((y : ℕ) → y ≤ x → Ok n → ¬ Live E m n y) → Queue F E m Ok x lo q → Queue F E m Ok x n q
+  pub pass : {x lo n : ℕ} {q : List ℕ} → n + 1 ≡ lo → ((y : ℕ) → y ≤ x → Ok n → ¬ Live E m n y) → Queue F E m Ok x lo q →
+      Queue F E m Ok x n q
   pass {lo = lo} {n = n} {q = q} e never u = record {
     falls = u .falls;
     ok = u .ok;
@@ -151,7 +158,8 @@ module _ {F : ℕ → ℕ → ℕ} {E : ℕ → ℕ} {m : ℕ} {Ok : ℕ → Typ
     falls = pairs-reverse (λ (a b : ℕ). a < b) (n ∷ q) (u .above, u .rises);
     ok = every-reverse Ok (n ∷ q) (u .new, u .ok);
     order = threes-reverse (Ordered F E m x) (n ∷ q) order;
-    above = every-reverse (λ (k : ℕ). n ≤ k) (n ∷ q) (omega arith, every-map (λ (k : ℕ). n < k) (λ (k : ℕ). n ≤ k) (λ k h. omega arith) q (u .above));
+    above = every-reverse (λ (k : ℕ). n ≤ k) (n ∷ q)
+        (omega arith, every-map (λ (k : ℕ). n < k) (λ (k : ℕ). n ≤ k) (λ k h. omega arith) q (u .above));
     cover = λ y c le from has live. any-reverse (Wins F E m y c) (n ∷ q) (u .cover y c le from has live);
   }
 
@@ -169,12 +177,14 @@ module _ {F : ℕ → ℕ → ℕ} {E : ℕ → ℕ} {m : ℕ} {Ok : ℕ → Typ
         keep : (y c : ℕ) → y ≤ x → Any (Wins F E m y c) (h ∷ s ∷ q) → Any (Wins F E m y c) (s ∷ q)
         keep y c yx (inl w) =
             over F E m y c h (s ∷ q)
-            (inl (nearer F E m laws y s h (u .ok .1 .0) (u .ok .0) (u .falls .0 .0) (w .0) (laws .gain s h x y (u .ok .1 .0) (u .ok .0) (u .falls .0 .0) yx le)))
+            (inl (nearer F E m laws y s h (u .ok .1 .0) (u .ok .0) (u .falls .0 .0) (w .0)
+            (laws .gain s h x y (u .ok .1 .0) (u .ok .0) (u .falls .0 .0) yx le)))
             (w .1)
         keep y c yx (inr w) = w
 
     -- ---- Pop: at each position where the rear k is live, something that stays wins against it
-    pop : {x n k : ℕ} {q : List ℕ} → ((y : ℕ) → y ≤ x → Live E m k y → Any (Wins F E m y k) (n ∷ q)) → Adding F E m Ok x n (k ∷ q) → Adding F E m Ok x n q
+    pop : {x n k : ℕ} {q : List ℕ} → ((y : ℕ) → y ≤ x → Live E m k y → Any (Wins F E m y k) (n ∷ q)) → Adding F E m Ok x n (k ∷ q) →
+        Adding F E m Ok x n q
     pop {x} {n} {k} {q} stays u = record {
       rises = u .rises .1;
       ok = u .ok .1;
@@ -193,7 +203,8 @@ module _ {F : ℕ → ℕ → ℕ} {E : ℕ → ℕ} {m : ℕ} {Ok : ℕ → Typ
     pub pop-worse : {x n k : ℕ} {q : List ℕ} → F n x ≤ F k x → Adding F E m Ok x n (k ∷ q) → Adding F E m Ok x n q
     pop-worse {x} {n} {k} le u =
         pop
-        (λ y yx live. inl (nearer F E m laws y n k (u .new) (u .ok .0) (u .above .0) live (laws .gain n k x y (u .new) (u .ok .0) (u .above .0) yx le)))
+        (λ y yx live. inl (nearer F E m laws y n k (u .new) (u .ok .0) (u .above .0) live
+        (laws .gain n k x y (u .new) (u .ok .0) (u .above .0) yx le)))
         u
 
     -- the rear is of no use between the candidate and its neighbour
@@ -227,7 +238,8 @@ module _ {F : ℕ → ℕ → ℕ} {E : ℕ → ℕ} {m : ℕ} {Ok : ℕ → Typ
       go (inl w) = w .1
       go (inr w) =
           any-gives (λ (k : ℕ). Wins F E m x c k × (F h x < F k x)) (λ k v. beats-trans F x h k c (inl (v .1)) (v .0 .1)) q
-          (any-every (Wins F E m x c) (λ (k : ℕ). F h x < F k x) (λ (k : ℕ). Wins F E m x c k × (F h x < F k x)) (λ k v g. (v, g)) q w behind)
+          (any-every (Wins F E m x c) (λ (k : ℕ). F h x < F k x) (λ (k : ℕ). Wins F E m x c k × (F h x < F k x))
+          (λ k v g. (v, g)) q w behind)
 
   -- An empty queue: no candidate is live.
   pub empty-none : {x lo : ℕ} → Queue F E m Ok x lo [] → (c : ℕ) → lo ≤ c → Ok c → ¬ Live E m c x

@@ -9,7 +9,8 @@ use native.Mathlib.Nat.{mul-le-mul-right}
 use native.Mathlib.Omega.{arith}
 use lib.Dec.{T}
 use Rattle.laws.specs.Number.{split}
-use Rattle.laws.specs.Cost.{Cost, none, some, _≼_, ≼-refl, ≼-trans, some-inj, some-not-none, before, before-mono, Reached, Least, least-unique}
+use Rattle.laws.specs.Cost.{Cost, none, some, _≼_, ≼-refl, ≼-trans, some-inj, some-not-none, before, before-mono, Reached, Least}
+use Rattle.laws.specs.Cost.{least-unique}
 
 -- A line goes from a start up to a later start or to the end. `fits` says which lines are admissible, `cost` what one
 -- costs, `join` how a line's cost joins the total of the rest, `done` what is left to pay at the end.
@@ -125,7 +126,8 @@ module _ (p : Problem) (mono : Monotone p) (b : ℕ → Cost) (ends : b (p .end)
   at-the-end i e = rw (← e, ends) (best-at-end p)
 
   -- a setting from i is a first line and a setting of the rest
-  same-least : (i : ℕ) → Least (First p (Admissible p) (total p) i) (λ (js : List ℕ). some (firstTotal p (Admissible p) (total p) i js)) (b i) →
+  same-least : (i : ℕ) →
+      Least (First p (Admissible p) (total p) i) (λ (js : List ℕ). some (firstTotal p (Admissible p) (total p) i js)) (b i) →
       LeastTotal p i (b i)
   same-least i l = record { low = low; reached = reached (b i) (l .reached) }
     where
@@ -133,7 +135,8 @@ module _ (p : Problem) (mono : Monotone p) (b : ℕ → Cost) (ends : b (p .end)
       low [] h = l .low [] h
       low (j ∷ js) h = l .low (j ∷ js) h
 
-      reached : (c : Cost) → Reached (First p (Admissible p) (total p) i) (λ (js : List ℕ). some (firstTotal p (Admissible p) (total p) i js)) c →
+      reached : (c : Cost) →
+          Reached (First p (Admissible p) (total p) i) (λ (js : List ℕ). some (firstTotal p (Admissible p) (total p) i js)) c →
           Reached (Admissible p i) (λ (js : List ℕ). some (total p i js)) c
       reached none r = tt
       reached (some t) ([], h, e) = ([], h, e)

@@ -28,7 +28,8 @@ pub sqd-eq : (a b : ℕ) → sqd a b + 2 * (a * b) ≡ a * a + b * b
 sqd-eq a b =
     ⊎-elim
     (λ h. up (λ (n : ℕ). sqd a n + 2 * (a * n) ≡ a * a + n * n) a b h (sqd-eq-up a))
-    (λ h. let w : sqd b a + 2 * (b * a) ≡ b * b + a * a = up (λ (n : ℕ). sqd b n + 2 * (b * n) ≡ b * b + n * n) b a (omega arith) (sqd-eq-up b) in
+    (λ h. let w : sqd b a + 2 * (b * a) ≡ b * b + a * a = up (λ (n : ℕ). sqd b n + 2 * (b * n) ≡ b * b + n * n) b a (omega arith)
+    (sqd-eq-up b) in
     omega (arith, w, sqd-comm a b))
     (split a b)
 

@@ -9,7 +9,8 @@ use native.Mathlib.Omega.{arith}
 use lib.Dec.{T}
 use lib.ListN.{length, getD}
 use Rattle.laws.specs.Number.{split}
-use Rattle.laws.specs.Cost.{Cost, none, some, _≼_, ≼-refl, ≼-trans, before, Reached, reached-map, Least, lower, lower-left, lower-right, lower-cases}
+use Rattle.laws.specs.Cost.{Cost, none, some, _≼_, ≼-refl, ≼-trans, before, Reached, reached-map, Least, lower, lower-left}
+use Rattle.laws.specs.Cost.{lower-right, lower-cases}
 use Rattle.laws.specs.Setting.{Problem, Monotone, Choice, Best, best-unique, through, Step, bellman}
 
 -- what the line from i to j costs, with a the cost of the rest; none where the line is not admissible
@@ -49,8 +50,12 @@ module _ (p : Problem) (b : ℕ → Cost) (i : ℕ) where
           Reached (From j) (through p b i) (elim t [ true ↦ before (p .join) (p .cost i j) a | false ↦ none ])
       go false f a e = tt
       go true f none e = tt
-      go true f (some u) e =
-          (j, (omega arith, record { rises = lt; within = le; admissible = f tt }), ap (λ (c : Cost). before (p .join) (p .cost i j) c) (sym e))
+      go true f (some u) e = (
+        j,
+        (omega arith, record { rises = lt; within = le; admissible = f tt }),
+        ap (λ (c : Cost). before (p .join) (p .cost i j) c)
+            (sym e),
+      )
 
   -- one more start in front of the others
   module _ (j : ℕ) (a : Cost) (bs : List Cost) (here : a ≡ b j) (lt : i < j) (le : j ≤ p .end)
@@ -72,7 +77,8 @@ module _ (p : Problem) (b : ℕ → Cost) (i : ℕ) where
         ⊎-elim
         (λ e. subst Reaching (sym e) (offer-reached j a here lt le))
         (λ e. subst Reaching (sym e)
-        (reached-map (From (suc j)) (From j) (through p b i) (λ k h. (omega (arith, h .0), h .1)) (cheapest p i (suc j) bs) (rest .reached)))
+        (reached-map (From (suc j)) (From j) (through p b i) (λ k h. (omega (arith, h .0), h .1)) (cheapest p i (suc j) bs)
+        (rest .reached)))
         (lower-cases (offer p i j a) (cheapest p i (suc j) bs))
 
   cheapest-least : (j : ℕ) (bs : List Cost) → i < j → j + length bs ≡ suc (p .end) →
@@ -108,7 +114,11 @@ module _ (p : Problem) where
   pub best-steps : (i : ℕ) → i < p .end → Step p (best p) i (best p i)
   best-steps i h =
       rw (best-cheapest i h)
-      (record { low = λ k c. least .low k (c .rises, c); reached = reached-map (From p (best p) i (suc i)) (Choice p i) (through p (best p) i) (λ k g. g .1) (cheapest p i (suc i) r) (least .reached) })
+      (record {
+        low = λ k c. least .low k (c .rises, c);
+        reached = reached-map (From p (best p) i (suc i)) (Choice p i)
+            (through p (best p) i) (λ k g. g .1) (cheapest p i (suc i) r) (least .reached);
+      })
     where
       r : List Cost
       r = row p (p .end - suc i) (suc i)

@@ -1,5 +1,5 @@
--- 01, "The paragraph", over what a paragraph's lines are: what 01 says of settings, penalties and the chosen next stands here once. Settings,
--- totals, the least over all of them and the tie rules are those of `laws` (Setting, Table, Chosen).
+-- 01, "The paragraph", over what a paragraph's lines are: 01's sentences on settings, penalties and the chosen next stand here once.
+-- Settings, totals, the least over all of them and the tie rules are those of `laws` (Setting, Table, Chosen).
 use Prim.Native.Nat.{ℕ, _+_}
 use mathlib.Core.Bool.{Bool, _&&_}
 use mathlib.Core.List.{List, _∷_}

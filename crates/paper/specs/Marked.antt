@@ -89,7 +89,8 @@ outcomeOf none js = NONE
 outcomeOf (some v) js = found v js
 
 unfoldable pub computed : Asked → List ℕ → Outcome
-computed (para lmin lopt lmax a) ws = outcomeOf (Paragraph.best (limits lmin lopt lmax a) ws 1) (Paragraph.breaks (limits lmin lopt lmax a) ws)
+computed (para lmin lopt lmax a) ws = outcomeOf (Paragraph.best (limits lmin lopt lmax a) ws 1)
+    (Paragraph.breaks (limits lmin lopt lmax a) ws)
 computed (list lmin lmax) ws = outcomeOf (Index.best (pageLimits lmin lmax) ws 0) (Index.boundaries (pageLimits lmin lmax) ws)
 
 -- What is computed for the rows is what the table says.

@@ -1,5 +1,5 @@
--- 01, "The paragraph". Words are numbered from 1, ws has their lengths, and n + 1 is the end. What settings, totals and choices are stands in
--- Lines; here are 01's own lines.
+-- 01, "The paragraph". Words are numbered from 1, ws has their lengths, and n + 1 is the end. What settings, totals and choices are
+-- stands in Lines; here are 01's own lines.
 use Prim.Native.Nat.{ℕ, _+_, _-_, _*_}
 use mathlib.Core.List.{List, [], _∷_}
 use lib.ListN.{length, take, drop}

@@ -52,7 +52,8 @@ bridged t j k l = edge t j k l && chord t j k l
 -- "1. While the front has Line > lmax: Drop it."
 unfoldable pub dropLong : Text → ℕ → List ℕ → Taken (List ℕ)
 dropLong t i [] = still []
-dropLong t i (j ∷ q) = elim (ltb (t .lines .lmax) (t .lines .line i j)) [ true ↦ moved (move Drop j) (dropLong t i q) | false ↦ still (j ∷ q) ]
+dropLong t i (j ∷ q) = elim (ltb (t .lines .lmax) (t .lines .line i j))
+    [ true ↦ moved (move Drop j) (dropLong t i q) | false ↦ still (j ∷ q) ]
 
 -- "Pop the rear while F(i, candidate) ≤ F(i, rear)", on the queue from rear to front
 unfoldable pub popWorse : Text → ℕ → ℕ → List ℕ → Taken (List ℕ)
@@ -80,7 +81,8 @@ pub record Standing : Type 0 where
 -- "if it is above lmax, or the candidate has no setting, Pass it. Otherwise" pop and add
 unfoldable pub consider : Text → ℕ → ℕ → List ℕ → Taken (List ℕ)
 consider t i j q =
-    elim (ltb (t .lines .lmax) (t .lines .line i j) || not (has? (t .best j))) [ true ↦ moved (move Pass j) (still q) | false ↦ add t i j q ]
+    elim (ltb (t .lines .lmax) (t .lines .line i j) || not (has? (t .best j)))
+    [ true ↦ moved (move Pass j) (still q) | false ↦ add t i j q ]
 
 -- "2. While Line(i, candidate) ≥ lmin: [..] The candidate then falls by one."
 unfoldable pub candidates : Text → ℕ → ℕ → List ℕ → Taken Standing
@@ -95,7 +97,8 @@ candidates t i (suc c) q =
 unfoldable pub dropWorse : Text → ℕ → List ℕ → Taken (List ℕ)
 dropWorse t i [] = still []
 dropWorse t i (j ∷ []) = still (j ∷ [])
-dropWorse t i (j ∷ k ∷ q) = elim (leb (F t i k) (F t i j)) [ true ↦ moved (move Drop j) (dropWorse t i (k ∷ q)) | false ↦ still (j ∷ k ∷ q) ]
+dropWorse t i (j ∷ k ∷ q) = elim (leb (F t i k) (F t i j))
+    [ true ↦ moved (move Drop j) (dropWorse t i (k ∷ q)) | false ↦ still (j ∷ k ∷ q) ]
 
 -- rule 3 leaves the candidate where rule 2 left it
 unfoldable pub settled : Text → ℕ → Standing → Taken Standing

@@ -50,7 +50,9 @@ module _ (p : Lines) (C : ℕ) (each : (x : ℕ) → x ≤ p .lmax → (j : ℕ)
   unfolding admissible
   admissible-lmax i j t = go (eqb j (p .end)) t
     where
-      go : (b : Bool) → T (if b (leb (p .lastmin) (p .line i j) && leb (p .line i j) (p .lmax)) (leb (p .lmin) (p .line i j) && leb (p .line i j) (p .lmax))) →
+      go : (b : Bool) →
+          T (if b (leb (p .lastmin) (p .line i j) && leb (p .line i j) (p .lmax))
+          (leb (p .lmin) (p .line i j) && leb (p .line i j) (p .lmax))) →
           p .line i j ≤ p .lmax
       go true t = leb→le (p .line i j) (p .lmax) (both (leb (p .lastmin) (p .line i j)) (leb (p .line i j) (p .lmax)) t .1)
       go false t = leb→le (p .line i j) (p .lmax) (both (leb (p .lmin) (p .line i j)) (leb (p .line i j) (p .lmax)) t .1)
@@ -90,9 +92,11 @@ item-bound ws t i = go i
         (λ h. omega (arith, length-holds ws t k h .1))
         (split (length ws) k)
 
-pub index-bound : (l : PageLimits) (ws : List ℕ) → T (all lengthHolds ws) → length ws ≤ 4096 → (i v : ℕ) → i ≤ end ws → Index.best l ws i ≡ some v → v < 2 ^ 25
+pub index-bound : (l : PageLimits) (ws : List ℕ) → T (all lengthHolds ws) → length ws ≤ 4096 → (i v : ℕ) → i ≤ end ws →
+    Index.best l ws i ≡ some v → v < 2 ^ 25
 unfolding index
 index-bound l ws allowed few i v high e =
     let b : Best (index l ws) i (some v) = subst (Best (index l ws) i) e (best-index l ws i high) in
-    let t : v ≤ (end ws - i) * 4095 = best-bound (index l ws) 4095 (λ j k ch. item-bound ws allowed j) (λ c n. omega arith) refl i v high b in
+    let t : v ≤ (end ws - i) * 4095 = best-bound (index l ws) 4095 (λ j k ch. item-bound ws allowed j)
+    (λ c n. omega arith) refl i v high b in
     omega arith

@@ -61,7 +61,12 @@ module _ (p : Lines) where
 
       through-free : through (settings p) (Table.best (settings p)) i (p .end) ≡ some 0
       unfolding settings charge
-      through-free = rw (Table.best-end (settings p), eq-eqb (p .end) (p .end) refl, le-leb (p .line i (p .end)) (p .lopt) (free-short i e .1))
+      through-free = rw (
+        Table.best-end (settings p),
+        eq-eqb (p .end) (p .end) refl,
+        le-leb (p .line i (p .end)) (p .lopt)
+            (free-short i e .1),
+      )
 
       pub free-best : Lines.best p i ≡ some 0
       unfolding Lines.best settings

@@ -74,8 +74,10 @@ module _ {t : Text} (s : Scaled t) (end : ℕ) {formula : ℕ → ℕ} {lines : 
         agrees .between j k (x .above) (omega arith) (v .within),
         agrees .between j m (x .above) (omega arith) (w .within),
         agrees .between k m (v .above) (omega arith) (w .within),
-        agrees .inside (t .lines .lmax - t .apart j m) (omega (arith, measured-apart s {j = j} {k = m} start (omega arith) x w)) (omega arith),
-        agrees .inside (t .lines .lmax - t .apart k m) (omega (arith, measured-apart s {j = k} {k = m} start (omega arith) v w)) (omega arith),
+        agrees .inside (t .lines .lmax - t .apart j m) (omega (arith, measured-apart s {j = j} {k = m} start (omega arith) x w))
+            (omega arith),
+        agrees .inside (t .lines .lmax - t .apart k m) (omega (arith, measured-apart s {j = k} {k = m} start (omega arith) v w))
+            (omega arith),
       )
 
   -- ---- the rules
@@ -96,7 +98,8 @@ module _ {t : Text} (s : Scaled t) (end : ℕ) {formula : ℕ → ℕ} {lines : 
       let a = F-same j new in
       let b = F-same k (live .0) in
       ⊎-elim
-      (λ h. popWorse-more u i j k q (omega arith) ∙ ap (moved (move Pop k)) (popWorse-same j q new (live .1)) ∙ sym (popWorse-more t i j k q h))
+      (λ h. popWorse-more u i j k q (omega arith) ∙ ap (moved (move Pop k)) (popWorse-same j q new (live .1))
+      ∙ sym (popWorse-more t i j k q h))
       (λ h. popWorse-stop u i j k q (omega arith) ∙ sym (popWorse-stop t i j k q h))
       (split (F t i j) (F t i k))
 
@@ -135,7 +138,8 @@ module _ {t : Text} (s : Scaled t) (end : ℕ) {formula : ℕ → ℕ} {lines : 
       let a = F-same j (live .0) in
       let b = F-same k (live .1 .0) in
       ⊎-elim
-      (λ h. dropWorse-more u i j k q (omega arith) ∙ ap (moved (move Drop j)) (dropWorse-same (k ∷ q) (live .1)) ∙ sym (dropWorse-more t i j k q h))
+      (λ h. dropWorse-more u i j k q (omega arith) ∙ ap (moved (move Drop j)) (dropWorse-same (k ∷ q) (live .1))
+      ∙ sym (dropWorse-more t i j k q h))
       (λ h. dropWorse-stop u i j k q (omega arith) ∙ sym (dropWorse-stop t i j k q h))
       (split (F t i k) (F t i j))
 

@@ -9,7 +9,8 @@ use lib.ListN.{length, length-append, length-reverse}
 use Rattle.laws.specs.Number.{split}
 use Rattle.paper.specs.declared.Kind.the-variants.{Drop, Pop}
 use Rattle.paper.specs.Moves.{Taken}
-use Rattle.paper.specs.QueueRules.{Text, Standing, dropLong, popWorse, popBridged, add, consider, candidates, dropWorse, settled, atStart, afterStarts}
+use Rattle.paper.specs.QueueRules.{Text, Standing, dropLong, popWorse, popBridged, add, consider, candidates, dropWorse, settled, atStart}
+use Rattle.paper.specs.QueueRules.{afterStarts}
 use Rattle.queue_theory.specs.Turns.{candidates-more, candidates-stop, consider-gives}
 use Rattle.queue_theory.specs.Leaves.{leaves-length, dropLong-leaves, popWorse-leaves, popBridged-leaves, dropWorse-leaves}
 
@@ -55,7 +56,8 @@ module _ (t : Text) where
 
   -- each candidate that is considered makes room for two moves
   pub candidates-count : (i c : ℕ) (q : List ℕ) →
-      length (candidates t i c q .moves) + length (candidates t i c q .stands .queue) + 2 * candidates t i c q .stands .candidate ≤ length q + 2 * c
+      length (candidates t i c q .moves) + length (candidates t i c q .stands .queue) + 2 * candidates t i c q .stands .candidate
+      ≤ length q + 2 * c
   unfolding candidates
   candidates-count i zero q = omega arith
   candidates-count i (suc c) q =
@@ -79,12 +81,19 @@ module _ (t : Text) where
       (split (t .lines .lmin) (t .lines .line i (suc c)))
 
   pub atStart-count : (i : ℕ) (s : Standing) →
-      length (atStart t i s .moves) + length (atStart t i s .stands .queue) + 2 * atStart t i s .stands .candidate ≤ length (s .queue) + 2 * s .candidate
+      length (atStart t i s .moves) + length (atStart t i s .stands .queue) + 2 * atStart t i s .stands .candidate ≤ length (s .queue)
+      + 2 * s .candidate
   unfolding atStart settled
   atStart-count i s =
       let a = dropLong t i (s .queue) in
       let b = candidates t i (s .candidate) (a .stands) in
-      simp length-append (omega (arith, dropLong-count i (s .queue), candidates-count i (s .candidate) (a .stands), dropWorse-count i (b .stands .queue)))
+      simp length-append (omega (
+        arith,
+        dropLong-count i (s .queue),
+        candidates-count i (s .candidate) (a .stands),
+        dropWorse-count i
+            (b .stands .queue),
+      ))
 
   pub afterStarts-count : (n d : ℕ) →
       length (afterStarts t n d .moves) + length (afterStarts t n d .stands .queue) + 2 * afterStarts t n d .stands .candidate ≤ 2 * (n + 1)

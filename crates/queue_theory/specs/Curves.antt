@@ -5,7 +5,7 @@ use mathlib.Core.Bool.{Bool, true, false, _&&_}
 use native.Mathlib.Omega.{arith}
 use lib.Dec.{leb}
 use borrow.Author.Tests.{leb-true, le-leb}
-use Rattle.laws.specs.Cost.{Has, value}
+use Rattle.laws.specs.Cost.{Has}
 use Rattle.laws.specs.Square.{sqd, sqd-line}
 use Rattle.laws.specs.Bridge.{curve, monotone, edge-side, Bridged, bridged-gives, not-bridged-gives}
 use Rattle.laws.specs.Queue.{Laws, Ordered, Useless}
@@ -65,7 +65,8 @@ module _ {t : Text} (s : Scaled t) where
         omega (arith, near, apart-is j m from (omega arith) within, ends-le s j i from ji (omega arith)) in
         ap (λ (n : ℕ). bestOf t i + n) (s .formula (t .lines .lmax - t .apart i m) (omega arith) (omega arith))
         ∙ ap (λ (d : ℕ). bestOf t i + t .a * sqd (t .lines .lmax - d) (t .lines .lopt)) e
-        ∙ edge-side (t .lines .lmax) (t .lines .lopt) (t .a) (bestOf t i) (s .E i) (s .E m) (ends-le s i m (omega arith) im within) (omega arith)
+        ∙ edge-side (t .lines .lmax) (t .lines .lopt) (t .a) (bestOf t i) (s .E i) (s .E m) (ends-le s i m (omega arith) im within)
+        (omega arith)
 
     edge-is : edge t j k m ≡ leb (sideOf j) (sideOf k)
     unfolding edge

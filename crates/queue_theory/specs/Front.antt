@@ -1,6 +1,6 @@
 -- Demand 3: at every start the front of the queue is the chosen next wherever it is the chooser, and an empty queue means that
 -- the start has no setting. Assumes nothing but what each theorem states.
-use Prim.Native.Nat.{ℕ, _+_, _-_, _≤_, _<_}
+use Prim.Native.Nat.{ℕ, _+_, _≤_, _<_}
 use mathlib.Core.Path.{_≡_, refl, ap, sym, subst, _∙_}
 use mathlib.Core.Logic.{_↔_, _≢_, ⊎-elim}
 use mathlib.Core.Bool.{Bool, true, false, _&&_}
@@ -9,17 +9,16 @@ use native.Mathlib.Omega.{arith}
 use lib.Dec.{T, leb, eqb, leb→le}
 use borrow.Author.Tests.{eqb-true, eq-eqb, lt-leb, le-leb, leb-true, leb-false}
 use Rattle.laws.specs.Number.{if, both, split, true-not-false}
-use Rattle.laws.specs.Cost.{Cost, none, some, _≼_, Has, value, has-value, has-some, some-not-none, before}
+use Rattle.laws.specs.Cost.{Cost, none, some, Has, value, has-some, some-not-none, before}
 use Rattle.laws.specs.Search.{smallest}
 use Rattle.laws.specs.Setting.{Choice, Admissible, through}
-use Rattle.laws.specs.Table as Table
 use Rattle.laws.specs.Chosen.{Next, next, next-is, next-none, next-unique}
 use Rattle.laws.specs.Members.{Every, every-map}
 use Rattle.laws.specs.Queue.{Beats, front-least, empty-none}
 use Rattle.laws.specs.Pointer.{Cheaper, cheaper-next, no-next}
 use Rattle.paper.specs.Lines as Lines
 use Rattle.paper.specs.Lines.{Lines, admissible, charge, settings, free}
-use Rattle.paper.specs.QueueRules.{Text, bestOf, F, frontBest, frontNext, takenBest, takenNext, Standing, queueAt}
+use Rattle.paper.specs.QueueRules.{Text, F, frontBest, frontNext, takenBest, takenNext, Standing, queueAt}
 use Rattle.paper_theory.specs.Cheapest.{free-best, lines-none}
 use Rattle.queue_theory.specs.Scales.{Scaled, Bested, line-before, line-shorter}
 use Rattle.queue_theory.specs.Ready.{Measured, stood-after}
@@ -28,7 +27,9 @@ use Rattle.queue_theory.specs.Sound.{sound-after}
 
 -- ---- the two bounds of an admissible line
 module _ (p : Lines) (i j : ℕ) where
-  bounds : (b : Bool) → T (if b (leb (p .lastmin) (p .line i j) && leb (p .line i j) (p .lmax)) (leb (p .lmin) (p .line i j) && leb (p .line i j) (p .lmax))) →
+  bounds : (b : Bool) →
+      T (if b (leb (p .lastmin) (p .line i j) && leb (p .line i j) (p .lmax))
+      (leb (p .lmin) (p .line i j) && leb (p .line i j) (p .lmax))) →
       (if b (p .lastmin) (p .lmin) ≤ p .line i j) × (p .line i j ≤ p .lmax)
   bounds true t =
       let h = both (leb (p .lastmin) (p .line i j)) (leb (p .line i j) (p .lmax)) t in
@@ -74,7 +75,8 @@ module _ {t : Text} (b : Bested t) (i : ℕ) (long : t .lines .lopt < t .lines .
   least-length j true e h = let f : j ≡ t .lines .end = eqb-true j (t .lines .end) e in rw f (omega (arith, b .lopt-low))
   least-length j false e h = h
 
-  choice-measure : (j : ℕ) → Choice (settings (t .lines)) i j → (t .lines .lmin ≤ t .lines .line i j) × (t .lines .line i j ≤ t .lines .lmax)
+  choice-measure : (j : ℕ) → Choice (settings (t .lines)) i j →
+      (t .lines .lmin ≤ t .lines .line i j) × (t .lines .line i j ≤ t .lines .lmax)
   unfolding settings admissible
   choice-measure j ch =
       let h = bounds (t .lines) i j (eqb j (t .lines .end)) (ch .admissible) in
@@ -228,7 +230,8 @@ module _ {t : Text} (s : Scaled t) (b : Bested t) (n : ℕ) (size : t .lines .en
   last-length : (k : ℕ) (js : List ℕ) → 1 ≤ k → Admissible (settings p) k js → p .lastmin ≤ p .line k (p .end)
   unfolding settings admissible
   last-length k [] from h =
-      bounds p k (p .end) true (subst (λ (e : Bool). T (if e (leb (p .lastmin) (p .line k (p .end)) && leb (p .line k (p .end)) (p .lmax)) (leb (p .lmin) (p .line k (p .end)) && leb (p .line k (p .end)) (p .lmax)))) (eq-eqb (p .end) (p .end) refl) (h .admissible)) .0
+      bounds p k (p .end) true (subst (λ (e : Bool). T (if e (leb (p .lastmin) (p .line k (p .end)) && leb (p .line k (p .end)) (p .lmax))
+      (leb (p .lmin) (p .line k (p .end)) && leb (p .line k (p .end)) (p .lmax)))) (eq-eqb (p .end) (p .end) refl) (h .admissible)) .0
   last-length k (j ∷ js) from h =
       omega (
         arith,

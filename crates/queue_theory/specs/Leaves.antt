@@ -13,7 +13,8 @@ use Rattle.paper.specs.declared.Kind.the-variants.{Drop, Pop}
 use Rattle.paper.specs.declared.Move.{Move}
 use Rattle.paper.specs.Moves.{Taken, move, moved, still}
 use Rattle.paper.specs.QueueRules.{Text, F, bridged, dropLong, popWorse, popBridged, add, dropWorse}
-use Rattle.queue_theory.specs.Turns.{dropLong-more, dropLong-stop, popWorse-more, popWorse-stop, popBridged-more, popBridged-stop, dropWorse-more, dropWorse-stop}
+use Rattle.queue_theory.specs.Turns.{dropLong-more, dropLong-stop, popWorse-more, popWorse-stop, popBridged-more, popBridged-stop}
+use Rattle.queue_theory.specs.Turns.{dropWorse-more, dropWorse-stop}
 
 -- a rule took `gone` off the end at which q is listed, one move each
 pub record Leaves (kind : Kind) (q : List ℕ) (r : Taken (List ℕ)) : Type 0 where

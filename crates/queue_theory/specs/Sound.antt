@@ -16,7 +16,8 @@ use Rattle.queue_theory.specs.Scales.{Scaled}
 use Rattle.queue_theory.specs.Turns.{dropLong-more, dropLong-stop, popWorse-more, popWorse-stop, popBridged-more, popBridged-stop}
 use Rattle.queue_theory.specs.Turns.{candidates-more, candidates-stop, dropWorse-more, dropWorse-stop, consider-gives}
 use Rattle.queue_theory.specs.Leaves.{popWorse-every}
-use Rattle.queue_theory.specs.Ready.{Measured, measured-apart, Held, Stood, dropLong-held, considered-above, considered-live, consider-held}
+use Rattle.queue_theory.specs.Ready.{Measured, measured-apart, Held, Stood, dropLong-held, considered-above, considered-live}
+use Rattle.queue_theory.specs.Ready.{consider-held}
 use Rattle.queue_theory.specs.Ready.{candidates-held, stood, stood-before}
 use Rattle.queue_theory.specs.Curves.{Settable, G, F-is, laws, bridged-useless, bridged-ordered}
 
@@ -136,7 +137,8 @@ module _ {t : Text} (s : Scaled t) {i : ℕ} (start : 1 ≤ i) where
       let q = dropLong t i (u .queue) .stands in
       let m = candidates t i (u .candidate) q .stands in
       let h = dropLong-held s start (u .candidate) (u .queue) (r .held) in
-      let w = dropLong-sound (u .candidate + 1) (u .queue) (r .held .live) (later (s .starts-rise i (i + 1) start (omega arith) inside) v) in
+      let w = dropLong-sound (u .candidate + 1) (u .queue) (r .held .live)
+      (later (s .starts-rise i (i + 1) start (omega arith) inside) v) in
       dropWorse-sound (m .candidate + 1) (m .queue) (candidates-held s start (u .candidate) q h .held .live)
       (candidates-sound (u .candidate) q h w)
 
@@ -148,7 +150,8 @@ module _ {t : Text} (s : Scaled t) (n : ℕ) (size : t .lines .end ≡ n + 1) wh
   sound (suc d) h =
       let e : n - suc d + 1 ≡ n - d = omega arith in
       rw e
-      (atStart-sound s (omega arith) (afterStarts t n d .stands) (omega (arith, size)) (stood s n size d (omega arith)) (sound d (omega arith)) .0)
+      (atStart-sound s (omega arith) (afterStarts t n d .stands) (omega (arith, size)) (stood s n size d (omega arith))
+      (sound d (omega arith)) .0)
 
   -- after start i
   pub sound-after : (i : ℕ) → 1 ≤ i → i ≤ n →

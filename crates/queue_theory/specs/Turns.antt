@@ -23,7 +23,8 @@ none-false (some v) h = absurd (h tt)
 
 module _ (t : Text) (i : ℕ) where
   -- ---- rule 1
-  pub dropLong-more : (j : ℕ) (q : List ℕ) → t .lines .lmax < t .lines .line i j → dropLong t i (j ∷ q) ≡ moved (move Drop j) (dropLong t i q)
+  pub dropLong-more : (j : ℕ) (q : List ℕ) → t .lines .lmax < t .lines .line i j →
+      dropLong t i (j ∷ q) ≡ moved (move Drop j) (dropLong t i q)
   unfolding dropLong
   dropLong-more j q h = rw (lt-ltb (t .lines .lmax) (t .lines .line i j) h, dropLong)
 
@@ -55,7 +56,8 @@ module _ (t : Text) (i : ℕ) where
       either true = refl
       either false = refl
 
-  pub consider-pass : (j : ℕ) (q : List ℕ) → (t .lines .line i j ≤ t .lines .lmax → ¬ Has (t .best j)) → consider t i j q ≡ moved (move Pass j) (still q)
+  pub consider-pass : (j : ℕ) (q : List ℕ) → (t .lines .line i j ≤ t .lines .lmax → ¬ Has (t .best j)) →
+      consider t i j q ≡ moved (move Pass j) (still q)
   consider-pass j q h = ⊎-elim (λ g. consider-none j q (h g)) (λ g. consider-long j q g) (split (t .lines .line i j) (t .lines .lmax))
 
   pub consider-add : (j : ℕ) (q : List ℕ) → t .lines .line i j ≤ t .lines .lmax → Has (t .best j) → consider t i j q ≡ add t i j q
@@ -70,7 +72,8 @@ module _ (t : Text) (i : ℕ) where
       candidates t i j q ≡ joined (consider t i j q) (candidates t i c)
   candidates-more c j q e h = let g : j ≡ suc c = omega arith in rw g (candidates-suc c q (rw g at h))
 
-  pub candidates-stop : (j : ℕ) (q : List ℕ) → t .lines .line i j < t .lines .lmin → candidates t i j q ≡ still (record { queue = q; candidate = j })
+  pub candidates-stop : (j : ℕ) (q : List ℕ) → t .lines .line i j < t .lines .lmin →
+      candidates t i j q ≡ still (record { queue = q; candidate = j })
   unfolding candidates
   candidates-stop zero q h = refl
   candidates-stop (suc c) q h = rw (lt-leb (t .lines .lmin) (t .lines .line i (suc c)) h, candidates)
@@ -85,7 +88,8 @@ module _ (t : Text) (i : ℕ) where
   dropWorse-stop j k q h = rw (lt-leb (F t i k) (F t i j) h, dropWorse)
 
 module _ (t : Text) (j : ℕ) where
-  pub popBridged-more : (k l : ℕ) (q : List ℕ) → bridged t j k l ≡ true → popBridged t j (k ∷ l ∷ q) ≡ moved (move Pop k) (popBridged t j (l ∷ q))
+  pub popBridged-more : (k l : ℕ) (q : List ℕ) → bridged t j k l ≡ true →
+      popBridged t j (k ∷ l ∷ q) ≡ moved (move Pop k) (popBridged t j (l ∷ q))
   unfolding popBridged
   popBridged-more k l q h = rw (h, popBridged)
 
