@@ -19,16 +19,29 @@ loop-holds : tie.Need-loop-holds Inv-loop μ-loop
 loop-holds c = filling-first _ (now (c .args .sums)) (omega arith)
 
 add-total : tie.Need-add-total Inv-loop μ-loop
-add-total c = omega (arith, filling-fits _ _ _ _ _ (c .before .before .loop .inv) (c .before .loop-test .taken) (c .before .before .before .pre .allowed) (c .before .before .before .pre .few))
+add-total c =
+    let pre = c .before .before .before .pre in
+    let loop = c .before .before .loop in
+    let loop-test = c .before .loop-test in
+    omega (arith, filling-fits _ _ _ _ _ (loop .inv) (loop-test .taken) (pre .allowed) (pre .few))
 
 mul-sums : tie.Need-mul-sums Inv-loop μ-loop
 mul-sums c = omega (arith, c .before .before .before .pre, c .before .before .before .good)
 
 slice-write-sums-2 : tie.Need-slice-write-sums-2 Inv-loop μ-loop
-slice-write-sums-2 c = omega (arith, c .before .before .before .pre, c .before .before .loop .inv .len, length-set (now (c .before .before .before .args .sums)) 0 0)
+slice-write-sums-2 c =
+    let args = c .before .before .before .args in
+    let pre = c .before .before .before .pre in
+    let loop = c .before .before .loop in
+    omega (arith, pre, loop .inv .len, length-set (now (args .sums)) 0 0)
 
 loop-again : tie.Need-loop-again Inv-loop μ-loop
-loop-again c = filling-more _ _ _ _ _ (c .before .before .loop .inv) (c .before .loop-test .taken) (omega (arith, c .before .before .before .pre, length-set (now (c .before .before .before .args .sums)) 0 0))
+loop-again c =
+    let args = c .before .before .before .args in
+    let pre = c .before .before .before .pre in
+    let loop = c .before .before .loop in
+    let loop-test = c .before .loop-test in
+    filling-more _ _ _ _ _ (loop .inv) (loop-test .taken) (omega (arith, pre, length-set (now (args .sums)) 0 0))
 
 same-length : tie.Need-same-length Inv-loop μ-loop
 same-length c = c .before .loop .inv .len ∙ simp length-set

@@ -19,13 +19,21 @@ cast-answer : tie.Need-cast-answer Inv-loop μ-loop
 cast-answer c = omega (arith, c .loop-test .taken, c .before .before .pre .few)
 
 mul-answer : tie.Need-mul-answer Inv-loop μ-loop
-mul-answer c = omega (arith, following-room _ _ _ _ _ _ _ _ (c .before .loop .inv) (c .before .before .pre) (c .loop-test .taken), c .before .loop .inv .len, c .before .before .good)
+mul-answer c =
+    let good = c .before .before .good in
+    let pre = c .before .before .pre in
+    let loop = c .before .loop in
+    omega (arith, following-room _ _ _ _ _ _ _ _ (loop .inv) pre (c .loop-test .taken), loop .inv .len, good)
 
 slice-write-answer : tie.Need-slice-write-answer Inv-loop μ-loop
 slice-write-answer c = following-room _ _ _ _ _ _ _ _ (c .before .loop .inv) (c .before .before .pre) (c .loop-test .taken)
 
 add-found : tie.Need-add-found Inv-loop μ-loop
-add-found c = omega (arith, following-room _ _ _ _ _ _ _ _ (c .before .loop .inv) (c .before .before .pre) (c .loop-test .taken), c .before .loop .inv .len, c .before .before .good)
+add-found c =
+    let good = c .before .before .good in
+    let pre = c .before .before .pre in
+    let loop = c .before .loop in
+    omega (arith, following-room _ _ _ _ _ _ _ _ (loop .inv) pre (c .loop-test .taken), loop .inv .len, good)
 
 sub-at : tie.Need-sub-at Inv-loop μ-loop
 sub-at c = c .before .loop .inv .leads .from
@@ -34,13 +42,20 @@ mul-at : tie.Need-mul-at Inv-loop μ-loop
 mul-at c = omega (arith, c .before .loop .inv .leads .from, c .loop-test .taken, c .before .before .pre .held, c .before .before .good)
 
 shared-slice-read-at : tie.Need-shared-slice-read-at Inv-loop μ-loop
-shared-slice-read-at c = omega (arith, c .before .before .loop .inv .leads .from, c .before .loop-test .taken, c .before .before .before .pre .held)
+shared-slice-read-at c =
+    let pre = c .before .before .before .pre in
+    let loop = c .before .before .loop in
+    let loop-test = c .before .loop-test in
+    omega (arith, loop .inv .leads .from, loop-test .taken, pre .held)
 
 cast-at : tie.Need-cast-at Inv-loop μ-loop
 cast-at c = omega (arith, c .shared-slice-known .given (c .before .before .loop .at - c .before .before .before .args .offset))
 
 loop-less : tie.Need-loop-less Inv-loop μ-loop
-loop-less c = omega (arith, c .before .loop-test .taken, leads-rises _ _ _ _ (c .before .before .loop .inv .leads) (c .before .loop-test .taken))
+loop-less c =
+    let loop = c .before .before .loop in
+    let loop-test = c .before .loop-test in
+    omega (arith, loop-test .taken, leads-rises _ _ _ _ (loop .inv .leads) (loop-test .taken))
 
 loop-again : tie.Need-loop-again Inv-loop μ-loop
 loop-again c = following-more _ _ _ _ _ _ _ _ (c .before .before .loop .inv) (c .before .before .before .pre) (c .before .loop-test .taken)
