@@ -85,11 +85,6 @@ has-value (some n) h = refl
 pub has-some : {a : Cost} {n : ℕ} → a ≡ some n → Has a
 has-some e = subst Has (sym e) tt
 
-pub has-below : (a b : Cost) → a ≼ b → Has b → Has a
-has-below a none h k = absurd k
-has-below none (some n) h k = h
-has-below (some m) (some n) h k = tt
-
 -- a line's cost joined to the cost of the rest
 abbrev pub before : (ℕ → ℕ → ℕ) → ℕ → Cost → Cost
 before f c none = none

@@ -1,6 +1,6 @@
 -- Settings of a text into lines, the least total over all of them, and Bellman's equation: over any line cost, any
 -- admissibility (the last line's own rule included) and any monotone way totals join. Assumes nothing.
-use Prim.Native.Nat.{ℕ, zero, suc, _+_, _-_, _*_, max, _≤_, _<_}
+use Prim.Native.Nat.{ℕ, zero, suc, _+_, _-_, _*_, _≤_, _<_}
 use mathlib.Core.Path.{_≡_, refl, ap, sym, subst, _∙_}
 use mathlib.Core.Logic.{⊎-elim}
 use mathlib.Core.Bool.{Bool}
@@ -157,13 +157,6 @@ module _ (p : Problem) (mono : Monotone p) (b : ℕ → Cost) (ends : b (p .end)
 
   pub bellman : (i : ℕ) → i ≤ p .end → Best p i (b i)
   bellman i k = bellman-from (p .end) i (omega arith) k
-
--- ---- two ways totals join
-pub sum-monotone : (c m n : ℕ) → m ≤ n → c + m ≤ c + n
-sum-monotone c m n h = omega arith
-
-pub max-monotone : (c m n : ℕ) → m ≤ n → max c m ≤ max c n
-max-monotone c m n h = omega arith
 
 -- ---- Wider admissibility never raises the least: q admits every line that p does, and there the two cost the same.
 pub record Wider (p q : Problem) : Type 0 where

@@ -36,23 +36,11 @@ module _ (t : Text) where
       let b = popBridged t j (a .stands) in
       simp (length-append, length-reverse) (omega (arith, popWorse-count i j (reverse q), popBridged-count j (a .stands), length-reverse q))
 
-  pub add-room : (i j : ℕ) (q : List ℕ) → length (add t i j q .stands) ≤ length q + 1
-  unfolding add
-  add-room i j q =
-      let a = popWorse t i j (reverse q) in
-      simp length-reverse (omega (arith, popWorse-count i j (reverse q), popBridged-count j (a .stands), length-reverse q))
-
   pub consider-count : (i j : ℕ) (q : List ℕ) → length (consider t i j q .moves) + length (consider t i j q .stands) ≤ length q + 2
   consider-count i j q =
       consider-gives t i j q (λ (r : Taken (List ℕ)). length (r .moves) + length (r .stands) ≤ length q + 2)
       (λ out. omega arith)
       (λ high has. omega (arith, add-count i j q))
-
-  pub consider-room : (i j : ℕ) (q : List ℕ) → length (consider t i j q .stands) ≤ length q + 1
-  consider-room i j q =
-      consider-gives t i j q (λ (r : Taken (List ℕ)). length (r .stands) ≤ length q + 1)
-      (λ out. omega arith)
-      (λ high has. add-room i j q)
 
   -- each candidate that is considered makes room for two moves
   pub candidates-count : (i c : ℕ) (q : List ℕ) →
@@ -65,18 +53,6 @@ module _ (t : Text) where
       (λ reach. let r = consider t i (suc c) q in
       rw (candidates-more t i c (suc c) q (omega arith) reach)
       (simp length-append (omega (arith, consider-count i (suc c) q, candidates-count i c (r .stands)))))
-      (λ short. rw (candidates-stop t i (suc c) q short) (omega arith))
-      (split (t .lines .lmin) (t .lines .line i (suc c)))
-
-  -- and for one member
-  pub candidates-room : (i c : ℕ) (q : List ℕ) →
-      length (candidates t i c q .stands .queue) + candidates t i c q .stands .candidate ≤ length q + c
-  unfolding candidates
-  candidates-room i zero q = omega arith
-  candidates-room i (suc c) q =
-      ⊎-elim
-      (λ reach. rw (candidates-more t i c (suc c) q (omega arith) reach)
-      (omega (arith, consider-room i (suc c) q, candidates-room i c (consider t i (suc c) q .stands))))
       (λ short. rw (candidates-stop t i (suc c) q short) (omega arith))
       (split (t .lines .lmin) (t .lines .line i (suc c)))
 
