@@ -3,15 +3,18 @@
 use Prim.Native.Nat.{ℕ, zero, suc, _+_, _-_, _≤_, _<_}
 use mathlib.Core.Path.{_≡_, refl, ap, sym, subst, _∙_}
 use mathlib.Core.Logic.{⊎-elim}
+use mathlib.Core.Bool.{Bool}
 use mathlib.Core.List.{List, [], _∷_, reverse}
 use native.Mathlib.Omega.{arith}
-use Rattle.laws.specs.Number.{split, tested}
-use Rattle.laws.specs.Cost.{Cost, Has}
+use lib.Dec.{leb}
+use Rattle.laws.specs.Number.{if, split, tested}
+use Rattle.laws.specs.Cost.{Cost, none, some, Has}
 use Rattle.laws.specs.Members.{Every, every-reverse, Rises, pairs-reverse}
 use Rattle.paper.specs.declared.Kind.the-variants.{Drop, Pop}
 use Rattle.paper.specs.Moves.{Taken, move, still, moved, joined}
+use Rattle.paper.specs.Lines.{free}
 use Rattle.paper.specs.QueueRules.{Text, Standing, F, edge, chord, bridged, dropLong, popWorse, popBridged, added, add, consider}
-use Rattle.paper.specs.QueueRules.{candidates, dropWorse, settled, atStart, afterStarts}
+use Rattle.paper.specs.QueueRules.{candidates, dropWorse, settled, atStart, afterStarts, frontBest, takenBest, takenNext}
 use Rattle.queue_theory.specs.Scales.{Scaled}
 use Rattle.queue_theory.specs.Turns.{dropLong-more, dropLong-stop, popWorse-more, popWorse-stop, popBridged-more, popBridged-stop}
 use Rattle.queue_theory.specs.Turns.{consider-pass, consider-add, consider-gives, candidates-more, candidates-stop}
@@ -176,6 +179,24 @@ module _ {t : Text} (s : Scaled t) (end : ℕ) {formula : ℕ → ℕ} {lines : 
       (dropLong-same (v .queue) (r .held .live)) (candidates-same (v .candidate) (a .stands) h))
       (ap (λ (d : Taken (List ℕ)). joined d (λ (q : List ℕ). still (record { queue = q; candidate = b .stands .candidate })))
       (dropWorse-same (b .stands .queue) (candidates-held s start (v .candidate) (a .stands) h .held .live)))
+
+  -- what the start takes
+  pub taken-same : i ≤ t .lines .end → end ≡ t .lines .end → (q : List ℕ) → Every (Measured t i) q →
+      (takenBest u i q ≡ takenBest t i q) × (takenNext u i q ≡ takenNext t i q)
+  unfolding takenBest takenNext free
+  taken-same inside e q live =
+      let w : lines i end ≡ t .lines .line i (t .lines .end) = ap (lines i) e ∙ agrees .from-start (t .lines .end) inside (omega arith) in
+      (rw w (ap (taking (free (t .lines) i) whole) (front q live)), rw (w, e))
+    where
+      whole : Bool
+      whole = leb (t .lines .line i (t .lines .end)) (t .lines .lopt)
+
+      taking : Bool → Bool → Cost → Cost
+      taking f short c = if f (some 0) (if short none c)
+
+      front : (q : List ℕ) → Every (Measured t i) q → frontBest u i q ≡ frontBest t i q
+      front [] v = refl
+      front (j ∷ q) v = ap some (F-same j (v .0))
 
 -- The queue rules apply the penalty formula only to lengths within lmin..lmax: a formula that agrees there takes the same moves and leaves
 -- the same queue at every start.
