@@ -10,5 +10,6 @@ pub mod Bridge
 pub mod Strip
 pub mod Outcome
 pub mod Members
+pub mod Part
 pub mod Queue
 pub mod Pointer

@@ -14,6 +14,7 @@ use mir.Val.{Fits, SFits, toZ, ofZ}
 use mir.Facts.{toZ-pos, toZ-ofZ}
 use Rattle.laws.specs.Number.{split}
 use Rattle.laws.specs.Square.{sqd}
+use Rattle.lines.specs.Asks.{farthest, Squaring}
 
 -- how far apart two numbers lie: one of the two differences is 0
 abbrev gap : ℕ → ℕ → ℕ
@@ -47,10 +48,11 @@ mag-below : (z : ℤ) → mag z ≤ natAbs z
 mag-below (pos n) = omega arith
 mag-below (negsuc n) = omega arith
 
--- what the machine computes from x and y: a signed number is read from its bits by toZ and written to them by ofZ, which keep it where it fits
-module _ (x y : ℕ) (h : x ≤ 16773120) (k : y ≤ 16773120) where
+-- what the machine computes from x and y: a signed number is read from its bits by toZ and written to them by ofZ, which keep it where
+-- it fits
+module _ {x y : ℕ} (q : Squaring x y) where
   read : toZ w64 x -ℤ toZ w64 y ≡ pos x -ℤ pos y
-  read = rw (toZ-pos w64 {n = x} (omega arith), toZ-pos w64 {n = y} (omega arith))
+  read = rw (toZ-pos w64 {n = x} (omega (arith, q .left)), toZ-pos w64 {n = y} (omega (arith, q .right)))
 
   pub sub-fits : SFits w64 (toZ w64 x -ℤ toZ w64 y)
   sub-fits = subst (SFits w64) (sym read) (record { sfits = omega (arith, mag-below (pos x -ℤ pos y), difference x y) })
@@ -64,7 +66,7 @@ module _ (x y : ℕ) (h : x ≤ 16773120) (k : y ≤ 16773120) where
       ap (λ (n : ℕ). pos (n * n)) (difference x y) ∙ ap pos (gap-square x y)
 
   pub mul-fits : SFits w64 (d *ℤ d)
-  mul-fits = subst (SFits w64) (sym squared) (record { sfits = omega (arith, sqd-fits x y 16773120 h k) })
+  mul-fits = subst (SFits w64) (sym squared) (record { sfits = omega (arith, sqd-fits x y (2 * farthest) (q .left) (q .right)) })
 
   read-square : toZ w64 (ofZ w64 (d *ℤ d)) ≡ pos (sqd x y)
   read-square = toZ-ofZ mul-fits ∙ squared
@@ -72,7 +74,7 @@ module _ (x y : ℕ) (h : x ≤ 16773120) (k : y ≤ 16773120) where
   pub cast-fits : T (nonNeg (toZ w64 (ofZ w64 (d *ℤ d)))) × Fits w64 (natAbs (toZ w64 (ofZ w64 (d *ℤ d))))
   cast-fits =
       subst (λ (z : ℤ). T (nonNeg z) × Fits w64 (natAbs z)) (sym read-square)
-      (tt, record { fits = omega (arith, sqd-fits x y 16773120 h k) })
+      (tt, record { fits = omega (arith, sqd-fits x y (2 * farthest) (q .left) (q .right)) })
 
   pub cast-is : natAbs (toZ w64 (ofZ w64 (d *ℤ d))) ≡ sqd x y
   cast-is = ap natAbs read-square

@@ -1,12 +1,23 @@
 -- What the functions of this crate ask of their callers. Assumes nothing.
-use Prim.Native.Nat.{ℕ, _-_, _^_, _≤_, _<_}
+use Prim.Native.Nat.{ℕ, _+_, _*_, _^_, _≤_, _<_}
+use mathlib.Core.Path.{_≡_}
 use mathlib.Core.List.{List}
 use lib.ListN.{length, getD}
 use Rattle.paper.specs.declared.Limits.{Limits}
 use Rattle.paper_theory.specs.Ranges.{Ranges}
-use Rattle.lines.specs.Held.{span}
+use Rattle.lines.specs.declared.Measure.{Measure}
+use Rattle.lines.specs.declared.Break.{Break}
+use Rattle.lines.specs.Held.{begins, breakIn}
 
--- the sums rise
+-- no line inside a measure ends past this
+abbrev pub farthest : ℕ
+farthest = 2 ^ 25
+
+-- every best that is a number is below this, with what its break is charged
+abbrev pub costliest : ℕ
+costliest = 2 ^ 41
+
+-- the sums, or the ends, rise
 abbrev pub Rising : List ℕ → Type 0
 Rising S = (a b : ℕ) → a ≤ b → b < length S → getD S a 0 ≤ getD S b 0
 
@@ -17,35 +28,58 @@ pub record Span (S : List ℕ) (i j : ℕ) : Type 0 where
   pub inside : j ≤ length S
   pub rising : Rising S
 
--- a length inside the measure
-pub record Inside (l : Limits) (x : ℕ) : Type 0 where
+-- lines may begin at a place
+pub record Beginning (l : Limits) (at : ℕ) : Type 0 where
   pub ranges : Ranges l
-  pub low : l .lmin ≤ x
-  pub high : x ≤ l .lmax
+  pub bounded : at + l .lmax ≤ farthest
 
--- index j has an entry in the best strip, and a number stands there
-pub record Numbered (B : List ℕ) (j : ℕ) : Type 0 where
-  pub within : j ≤ length B
-  pub small : getD B (j - 1) 0 < 2 ^ 40
+-- p is the measure of lines that begin at a place
+pub record Placed (l : Limits) (p : Measure) : Type 0 where
+  pub near : p .near ≡ begins l p + l .lmin
+  pub goal : p .goal ≡ begins l p + l .lopt
+  pub far : p .far ≡ begins l p + l .lmax
+  pub bounded : p .far ≤ farthest
 
--- F(i, j) is asked for a line inside the measure, of an index that has a setting
-pub record Through (l : Limits) (S B : List ℕ) (i j : ℕ) : Type 0 where
-  pub line : Span S i j
-  pub measure : Inside l (span S i j)
-  pub number : Numbered B j
-
--- three breaks j < k < n, within lmax - lmin of each other
-pub record Three (l : Limits) (S B : List ℕ) (j k n : ℕ) : Type 0 where
-  pub ranges : Ranges l
+-- index j has an entry
+pub record Indexed (E : List ℕ) (j : ℕ) : Type 0 where
   pub first : 1 ≤ j
-  pub jk : j ≤ k
-  pub kn : k ≤ n
-  pub inside : n ≤ length S
-  pub rising : Rising S
-  pub near : span S j n ≤ l .lmax - l .lmin
-  pub j-number : Numbered B j
-  pub k-number : Numbered B k
-  pub n-number : Numbered B n
+  pub within : j ≤ length E
+
+-- numbers whose square apart fits
+pub record Squaring (x y : ℕ) : Type 0 where
+  pub left : x ≤ 2 * farthest
+  pub right : y ≤ 2 * farthest
+
+-- and fifteen times that
+pub record Weighing (l : Limits) (x y : ℕ) : Type 0 where
+  pub weight : l .a ≤ 15
+  pub square : Squaring x y
+
+-- a break that has a setting, and ends within what is measured
+pub record Priced (b : Break) : Type 0 where
+  pub end : b .end ≤ farthest
+  pub number : b .best < costliest
+
+pub record Curved (l : Limits) (goal : ℕ) (b : Break) : Type 0 where
+  pub weight : l .a ≤ 15
+  pub bounded : goal ≤ farthest
+  pub break : Priced b
+
+-- F is asked of an index that has a setting
+pub record Through (l : Limits) (goal : ℕ) (E B : List ℕ) (j : ℕ) : Type 0 where
+  pub index : Indexed E j
+  pub same : length B ≡ length E
+  pub curve : Curved l goal (breakIn E B j)
+
+-- three breaks in the order of their ends, within lmax of each other
+pub record Three (l : Limits) (j k n : Break) : Type 0 where
+  pub ranges : Ranges l
+  pub jk : j .end ≤ k .end
+  pub kn : k .end ≤ n .end
+  pub near : n .end ≤ j .end + l .lmax
+  pub j-break : Priced j
+  pub k-break : Priced k
+  pub n-break : Priced n
 
 -- numbers whose products the second test of "bridged" may take
 pub record Products (a jk jn kn bj bk bn : ℕ) : Type 0 where
@@ -53,6 +87,6 @@ pub record Products (a jk jn kn bj bk bn : ℕ) : Type 0 where
   pub jk-small : jk ≤ 4095
   pub jn-small : jn ≤ 4095
   pub kn-small : kn ≤ 4095
-  pub j-best : bj < 2 ^ 40
-  pub k-best : bk < 2 ^ 40
-  pub n-best : bn < 2 ^ 40
+  pub j-best : bj < costliest
+  pub k-best : bk < costliest
+  pub n-best : bn < costliest

@@ -1,16 +1,28 @@
-// Lines, their penalties, and the test of "bridged", on the strips. Every function here is a workshop part: it asks what its
-// callers meet.
+// Lines, their penalties, and the test of "bridged", on numbers. Every function here is a workshop part: it asks what its callers
+// meet.
 use paper::Limits;
 use strips::long;
 ghost use mathlib.Core.Path.{_≡_};
-ghost use Prim.Native.Nat.{_+_, _*_, _^_, _≤_, _<_};
-ghost use lib.Dec.{leb};
+ghost use Prim.Native.Nat.{_-_, _*_, _^_, _≤_};
+ghost use lib.ListN.{length, getD};
 ghost use Rattle.laws.specs.Square.{sqd};
 ghost use Rattle.paper_theory.specs.Ranges.{Ranges};
 ghost use Rattle.paper.specs.Paragraph.{penalty as formula};
-ghost use Rattle.paper.specs.QueueRules.{F, edge as isEdge, chord as isChord, bridged as isBridged};
-ghost use Rattle.lines.specs.Held.{span, textIn};
-ghost use Rattle.lines.specs.Asks.{Span, Inside, Through, Three, Products};
+ghost use Rattle.lines.specs.Held.{span, begins, breakIn, costAt, sideAt, edgeAt, chordOf, chordAt, bridgedAt};
+ghost use Rattle.lines.specs.Asks.{Span, Beginning, Placed, Indexed, Squaring, Weighing, Curved, Through, Three, Products};
+
+// Where a line from a start is inside the measure: it ends at near to far, at best at goal.
+pub struct Measure {
+    pub near: u32,
+    pub goal: u32,
+    pub far: u32,
+}
+
+// A break as the rules read it: where a line to it ends, and its best.
+pub struct Break {
+    pub end: u32,
+    pub best: u64,
+}
 
 // Line(i, j): the lengths of words i to j-1.
 pub fn line(sums: &[u32], i: usize, j: usize) -> u32
@@ -20,13 +32,53 @@ pub fn line(sums: &[u32], i: usize, j: usize) -> u32
     sums[j - 1] - sums[i - 1]
 }
 
+// The measure of lines that begin at a place of the ends' scale.
+pub fn measure_from(l: Limits, at: u32) -> Measure
+    requires { ⌜ Beginning l at ⌝ }
+    ensures { λ r. ⌜ (Placed l r) × (begins l r ≡ at) ⌝ }
+{
+    Measure {
+        near: at + l.lmin,
+        goal: at + l.lopt,
+        far: at + l.lmax,
+    }
+}
+
+// Where a line to break j ends.
+pub fn end_of(ends: &[u32], j: u32) -> u32
+    requires { ⌜ Indexed (now ends) j ⌝ }
+    ensures { λ r. ⌜ r ≡ getD (now (ends .entry)) (j - 1) 0 ⌝ }
+{
+    ends[j as usize - 1]
+}
+
+// Break j.
+pub fn break_of(ends: &[u32], best: &[u64], j: u32) -> Break
+    requires { ⌜ (Indexed (now ends) j) × (length (now best) ≡ length (now ends)) ⌝ }
+    ensures { λ r. ⌜ r ≡ breakIn (now (ends .entry)) (now (best .entry)) j ⌝ }
+{
+    let at = j as usize - 1;
+    Break {
+        end: ends[at],
+        best: best[at],
+    }
+}
+
 // (x - y)², by a signed difference: the machine need not find which of the two is the greater.
 fn square_apart(x: u32, y: u32) -> u64
-    requires { ⌜ (x ≤ 16773120) × (y ≤ 16773120) ⌝ }
+    requires { ⌜ Squaring x y ⌝ }
     ensures { λ r. ⌜ r ≡ sqd x y ⌝ }
 {
     let d = x as i64 - y as i64;
     (d * d) as u64
+}
+
+// A·(x - y)².
+fn weighed(l: Limits, x: u32, y: u32) -> u64
+    requires { ⌜ Weighing l x y ⌝ }
+    ensures { λ r. ⌜ (r ≡ l .a * sqd x y) × (r ≤ 2 ^ 56) ⌝ }
+{
+    long(l.a) * square_apart(x, y)
 }
 
 // The penalty formula, A·(x - lopt)².
@@ -34,63 +86,66 @@ pub fn penalty(l: Limits, x: u32) -> u64
     requires { ⌜ (Ranges l) × (x ≤ 16773120) ⌝ }
     ensures { λ r. ⌜ r ≡ formula l x ⌝ }
 {
-    long(l.a) * square_apart(x, l.lopt)
+    weighed(l, x, l.lopt)
 }
 
-// The same for a line inside the measure, where all rules ask it.
-pub fn line_penalty(l: Limits, x: u32) -> u64
-    requires { ⌜ Inside l x ⌝ }
-    ensures { λ r. ⌜ (r ≡ formula l x) × (r < 2 ^ 28) ⌝ }
+// A line that is best at goal, with the best of its break.
+pub fn curve(l: Limits, goal: u32, b: Break) -> u64
+    requires { ⌜ Curved l goal b ⌝ }
+    ensures { λ r. ⌜ r ≡ costAt l goal b ⌝ }
 {
-    penalty(l, x)
+    b.best + weighed(l, b.end, goal)
 }
 
 // F(i, j) = best of j + A·(Line(i, j) - lopt)².
-pub fn through(l: Limits, sums: &[u32], best: &[u64], i: usize, j: usize) -> u64
-    requires { ⌜ Through l (now sums) (now best) i j ⌝ }
-    ensures { λ r. ⌜ (r ≡ F (textIn l (now (sums .entry)) (now (best .entry))) i j) × (r < 2 ^ 41) ⌝ }
+pub fn through(l: Limits, goal: u32, ends: &[u32], best: &[u64], j: u32) -> u64
+    requires { ⌜ Through l goal (now ends) (now best) j ⌝ }
+    ensures { λ r. ⌜ r ≡ costAt l goal (breakIn (now (ends .entry)) (now (best .entry)) j) ⌝ }
 {
-    best[j - 1] + line_penalty(l, line(sums, i, j))
+    curve(l, goal, break_of(ends, best, j))
 }
 
-// The first test of "bridged": with j the candidate, k the rear and n its neighbour.
-fn edge(l: Limits, sums: &[u32], best: &[u64], j: usize, k: usize, n: usize) -> bool
-    requires { ⌜ Three l (now sums) (now best) j k n ⌝ }
-    ensures { λ r. ⌜ r ≡ isEdge (textIn l (now (sums .entry)) (now (best .entry))) j k n ⌝ }
+// A side of the first test of "bridged", for the neighbour n: best b + p(lmax - Line(b, n)), both ends moved on by lmax.
+fn side(l: Limits, n: Break, b: Break) -> u64
+    requires { ⌜ (Curved l (n .end) b) × (Ranges l) ⌝ }
+    ensures { λ r. ⌜ r ≡ sideAt l n b ⌝ }
 {
-    let jn = line(sums, j, n);
-    let kn = line(sums, k, n);
-    let near = best[j - 1] + line_penalty(l, l.lmax - jn);
-    let far = best[k - 1] + line_penalty(l, l.lmax - kn);
-    near <= far
+    b.best + weighed(l, b.end + l.lmax, n.end + l.lopt)
 }
 
-// The second test, on numbers.
+// The first test: with j the candidate, k the rear and n its neighbour.
+fn edge(l: Limits, j: Break, k: Break, n: Break) -> bool
+    requires { ⌜ Three l j k n ⌝ }
+    ensures { λ r. ⌜ r ≡ edgeAt l j k n ⌝ }
+{
+    side(l, n, j) <= side(l, n, k)
+}
+
+// The second test, by how far the breaks lie apart.
 fn above(a: u64, jk: u64, jn: u64, kn: u64, bj: u64, bk: u64, bn: u64) -> bool
     requires { ⌜ Products a jk jn kn bj bk bn ⌝ }
-    ensures { λ r. ⌜ r ≡ leb (jk * bn + kn * bj + a * (jk * jn * kn)) (jn * bk) ⌝ }
+    ensures { λ r. ⌜ r ≡ chordOf a jk jn kn bj bk bn ⌝ }
 {
     jk * bn + kn * bj + a * (jk * jn * kn) <= jn * bk
 }
 
-// The second test of "bridged".
-fn chord(l: Limits, sums: &[u32], best: &[u64], j: usize, k: usize, n: usize) -> bool
-    requires { ⌜ Three l (now sums) (now best) j k n ⌝ }
-    ensures { λ r. ⌜ r ≡ isChord (textIn l (now (sums .entry)) (now (best .entry))) j k n ⌝ }
+fn chord(l: Limits, j: Break, k: Break, n: Break) -> bool
+    requires { ⌜ Three l j k n ⌝ }
+    ensures { λ r. ⌜ r ≡ chordAt l j k n ⌝ }
 {
-    let jk = long(line(sums, j, k));
-    let jn = long(line(sums, j, n));
-    let kn = long(line(sums, k, n));
-    above(long(l.a), jk, jn, kn, best[j - 1], best[k - 1], best[n - 1])
+    let jk = long(k.end - j.end);
+    let jn = long(n.end - j.end);
+    let kn = long(n.end - k.end);
+    above(long(l.a), jk, jn, kn, j.best, k.best, n.best)
 }
 
-// Whether the rear k is bridged between the candidate j and its neighbour n.
-pub fn bridged(l: Limits, sums: &[u32], best: &[u64], j: usize, k: usize, n: usize) -> bool
-    requires { ⌜ Three l (now sums) (now best) j k n ⌝ }
-    ensures { λ r. ⌜ r ≡ isBridged (textIn l (now (sums .entry)) (now (best .entry))) j k n ⌝ }
+// Whether the rear k is bridged between the candidate j and its neighbour n. As measured, the second test first is the faster order.
+pub fn bridged(l: Limits, j: Break, k: Break, n: Break) -> bool
+    requires { ⌜ Three l j k n ⌝ }
+    ensures { λ r. ⌜ r ≡ bridgedAt l j k n ⌝ }
 {
-    if !edge(l, sums, best, j, k, n) {
+    if !chord(l, j, k, n) {
         return false;
     }
-    chord(l, sums, best, j, k, n)
+    edge(l, j, k, n)
 }

@@ -5,16 +5,16 @@ use Rattle.lines.proofs.square_apart.Statement.{statement}
 use Rattle.lines.proofs.square_apart.Tie as tie
 
 sub-d : tie.Need-sub-d
-sub-d c = sub-fits _ _ (c .pre .0) (c .pre .1)
+sub-d c = sub-fits (c .pre)
 
 mul-result : tie.Need-mul-result
-mul-result c = mul-fits _ _ (c .pre .0) (c .pre .1)
+mul-result c = mul-fits (c .pre)
 
 cast-result : tie.Need-cast-result
-cast-result c = cast-fits _ _ (c .pre .0) (c .pre .1)
+cast-result c = cast-fits (c .pre)
 
 returns : tie.Need-returns
-returns c = cast-is _ _ (c .pre .0) (c .pre .1)
+returns c = cast-is (c .pre)
 
 pub square-apart-spec : {M : Type 1} → statement M
 square-apart-spec = tie.close (tie.spec (λ c. search needs) (λ c. search needs) sub-d mul-result cast-result returns)

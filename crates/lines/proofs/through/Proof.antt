@@ -1,21 +1,13 @@
 -- `lines::through` meets its contract. Assumes nothing.
-use native.Mathlib.Omega.{arith}
-use Rattle.lines.proofs.Sizes.{through-is}
 use borrow.Author.Needs.{needs}
 use Rattle.lines.proofs.through.Statement.{statement}
 use Rattle.lines.proofs.through.Tie as tie
 
+curve-requires : tie.Need-curve-requires
+curve-requires c κs = rw (c .break-of .ensures) (c .before .before .before .pre .curve)
+
 returns : tie.Need-returns
-returns c = (through-is _ _ _ _ _ _ _ (c .before .before .before .before .before .pre .number) (c .before .line .ensures) (c .line-penalty .ensures .0), omega (arith, c .line-penalty .ensures .1, c .before .before .before .before .before .pre .number .small))
+returns c = rw (c .before .break-of .ensures) at (c .curve .ensures)
 
 pub through-spec : {M : Type 1} → statement M
-through-spec =
-    tie.close
-    (tie.spec
-    (λ c. search needs)
-    (λ c. search needs)
-    (λ c. search needs)
-    (λ c κs. search needs)
-    (λ c κs. search needs)
-    (λ c. search needs)
-    returns)
+through-spec = tie.close (tie.spec (λ c κs. search needs) curve-requires returns)
