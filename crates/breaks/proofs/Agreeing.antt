@@ -2,116 +2,141 @@
 -- what each law states.
 use Prim.Native.Nat.{ℕ, _+_, _-_, _^_, _≤_, _<_}
 use mathlib.Core.Path.{_≡_, refl, ap, sym, subst, _∙_}
-use mathlib.Core.Logic.{_⊎_, inl, inr}
-use mathlib.Core.Bool.{Bool, true, false}
-use mathlib.Core.List.{List, [], _∷_}
+use mathlib.Core.Logic.{_⊎_, inl, inr, ⊎-elim}
+use mathlib.Core.List.{List}
 use native.Mathlib.Omega.{arith}
-use borrow.Author.Tests.{leb-true, leb-false}
-use lib.Dec.{leb}
+use borrow.Author.Tests.{lt-ltb, le-ltb}
+use lib.Dec.{ltb}
 use lib.ListN.{length, getD}
-use Rattle.laws.specs.Number.{if}
+use Rattle.laws.specs.Number.{if, split}
 use Rattle.laws.specs.Cost.{Cost, none, some}
 use Rattle.laws.specs.Members.{Every}
 use Rattle.paper.specs.declared.Limits.{Limits}
 use Rattle.paper.specs.Allowed.{limitsHold}
-use Rattle.paper_theory.specs.Ranges.{Ranges, ranges}
-use Rattle.paper.specs.Paragraph.{line, end, best, chosenNext, penalty}
-use Rattle.paper_theory.specs.Scale.{line-is}
-use Rattle.paper_theory.specs.Bound.{paragraph-bound}
-use Rattle.paper.specs.QueueRules.{Standing, textOf, F, front, atStart, afterStarts, queueAt}
+use Rattle.paper.specs.Paragraph.{line, end, best, chosenNext, penalty, lines}
+use Rattle.paper.specs.QueueRules.{Text, Standing, textOf, takenBest, takenNext, atStart, afterStarts, queueAt}
 use Rattle.paper.specs.Strips.{bestEntry}
-use Rattle.queue_theory.specs.Ready.{Live, ready-at, held-at}
-use Rattle.queue_theory.specs.Agree.{Agrees, F-same, atStart-same}
-use Rattle.queue_theory.specs.Front.{Chooses, front-is-chosen, short-last}
+use Rattle.paper_theory.specs.Bound.{paragraph-bound}
+use Rattle.paper_theory.specs.Cheapest.{best-last}
+use Rattle.paper_theory.specs.Ranges.{Ranges, ranges}
+use Rattle.paper_theory.specs.Scale.{upTo-bound, line-scale, line-is}
+use Rattle.queue_theory.specs.Agree.{Agrees, atStart-same, taken-same}
+use Rattle.queue_theory.specs.Paragraph.{scaled, size, start-takes}
+use Rattle.queue_theory.specs.Ready.{Measured, stood-before, stood-after}
+use Rattle.strips.specs.Costs.{costOf, entry-back}
+use Rattle.strips.specs.Filling.{Entered}
+use Rattle.strips.specs.Words.{wordsOf, Holds, holds-length, holds-entry}
 use Rattle.lines.specs.Held.{span, textIn}
-use Rattle.strips.specs.Costs.{costOf, cost-number}
-use Rattle.strips.specs.Words.{wordsOf, Holds, holds-length, holds-entry, holds-rising}
-use Rattle.queue.specs.Asks.{Words, Bests}
-use Rattle.breaks.specs.Asks.{frontBest, takenBest, takenNext}
+use Rattle.queue.specs.Asks.{Known}
+use Rattle.breaks.specs.Asks.{bestAt}
 
 -- the best strip holds the bests of the starts after i
 pub record Done (l : Limits) (S B : List ℕ) (i : ℕ) : Type 0 where
   pub holds : Holds (limitsHold l) S
-  pub size : length B ≡ length S
-  pub best : (k : ℕ) → i < k → k ≤ length S → getD B (k - 1) 0 ≡ bestEntry (Rattle.paper.specs.Paragraph.best l (wordsOf S) k)
+  pub bests : Entered (bestAt l (wordsOf S)) 1 (length (wordsOf S)) (i + 1) B
+
+-- the text that the strips hold at start i
+abbrev pub textHeld : Limits → List ℕ → List ℕ → ℕ → Text
+textHeld l S B i = textIn l S B (getD S (i - 1) 0)
 
 module _ (l : Limits) (S B : List ℕ) (i : ℕ) (d : Done l S B i) where
   abbrev ws : List ℕ
   ws = wordsOf S
 
-  limits : Ranges l
-  limits = ranges l (d .holds .passed .limits)
+  pub held-ranges : Ranges l
+  held-ranges = ranges l (d .holds .passed .limits)
 
-  sized : length S ≡ length ws + 1
-  sized = holds-length (limitsHold l) S (d .holds)
+  pub held-size : length S ≡ length ws + 1
+  held-size = holds-length (limitsHold l) S (d .holds)
 
-  pub done-words : Words l S B
-  done-words = record { ranges = limits; few = omega (arith, sized, d .holds .passed .few); same = d .size; rising = holds-rising (limitsHold l) S (d .holds) }
+  pub held-bests : length B ≡ length S
+  held-bests = omega (arith, held-size, d .bests .size)
+
+  -- a line may begin at every start
+  pub held-place : (k : ℕ) → 1 ≤ k → k ≤ length S → getD S (k - 1) 0 + l .lmax ≤ 2 ^ 25
+  held-place k low high =
+      omega (
+        arith,
+        holds-entry (limitsHold l) S (d .holds) (k - 1) (omega (arith, held-size)),
+        upTo-bound ws (d .holds .passed .lengths) (k - 1) (omega (arith, held-size)),
+        held-size,
+        d .holds .passed .few,
+        held-ranges .lmax-high,
+      )
+
+  best-held : (k : ℕ) → 1 ≤ i → i < k → k ≤ length S → getD B (k - 1) 0 ≡ bestAt l ws k
+  unfolding best lines bestEntry
+  best-held k first above within =
+      ⊎-elim
+      (λ le. d .bests .each k (k - 1) (omega arith) (omega arith) le)
+      (λ gt. let e : k ≡ length ws + 1 = omega (arith, held-size) in
+      d .bests .last (k - 1) (omega arith) ∙ sym (rw e (ap bestEntry (best-last (lines l ws)))))
+      (split k (length ws))
 
   -- a best is none, or a number that fits
   sorts : (k : ℕ) → 1 ≤ k → k ≤ length S → (c : Cost) → best l ws k ≡ c → (bestEntry c ≡ 2 ^ 64 - 1) ⊎ (bestEntry c < 2 ^ 40)
   unfolding bestEntry
   sorts k low high none e = inl refl
-  sorts k low high (some v) e = inr (paragraph-bound l limits ws (d .holds .passed .few) k v low (omega (arith, sized)) e)
+  sorts k low high (some v) e = inr (paragraph-bound l held-ranges ws (d .holds .passed .few) k v low (omega (arith, held-size)) e)
 
-  pub done-bests : 1 ≤ i → Bests B i
-  done-bests first k above within =
-      rw (d .best k above (omega (arith, d .size))) (sorts k (omega arith) (omega (arith, d .size)) (best l ws k) refl)
-
-  entry-back : (k : ℕ) → 1 ≤ k → k ≤ length S → (c : Cost) → best l ws k ≡ c → costOf (bestEntry c) ≡ c
-  unfolding bestEntry costOf
-  entry-back k low high none e = refl
-  entry-back k low high (some v) e = cost-number v (omega (arith, paragraph-bound l limits ws (d .holds .passed .few) k v low (omega (arith, sized)) e))
-
-  spans : (j k : ℕ) → 1 ≤ j → j ≤ k → k ≤ end ws → span S j k ≡ line ws j k
-  spans j k low jk high =
-      rw (holds-entry (limitsHold l) S (d .holds) (k - 1) (omega arith), holds-entry (limitsHold l) S (d .holds) (j - 1) (omega arith)) (sym (line-is ws j k low jk))
+  fits : (k v : ℕ) → 1 ≤ k → k ≤ length S → best l ws k ≡ some v → v < 2 ^ 64 - 1
+  fits k v low high e = omega (arith, paragraph-bound l held-ranges ws (d .holds .passed .few) k v low (omega (arith, held-size)) e)
 
   module _ (first : 1 ≤ i) where
-    agrees : Agrees l ws (penalty l) (span S) (span S) (λ k. costOf (getD B (k - 1) 0)) i
+    pub held-known : Known B i
+    held-known k above within =
+        let inside : k ≤ length S = omega (arith, held-bests) in
+        rw (best-held k first above inside)
+        (⊎-elim (λ e. inl e) (λ h. inr (omega arith)) (sorts k (omega arith) inside (best l ws k) refl))
+
+    spans : (j k : ℕ) → 1 ≤ j → j ≤ k → k ≤ end ws → span S j k ≡ line ws j k
+    spans j k low jk high =
+        let entry = holds-entry (limitsHold l) S (d .holds) in
+        rw (entry (k - 1) (omega arith), entry (j - 1) (omega arith)) (sym (line-is ws j k low jk))
+
+    -- a line from the start
+    from : ℕ → ℕ → ℕ
+    from a k = if (ltb a k) (getD S (k - 1) 0 - getD S (i - 1) 0) 0
+
+    from-start : (k : ℕ) → i ≤ k → k ≤ end ws → from i k ≡ line ws i k
+    unfolding from
+    from-start k ik high =
+        ⊎-elim
+        (λ le. let e : i ≡ k = omega arith in subst (λ (z : ℕ). from i z ≡ line ws i z) e here)
+        (λ lt. rw (lt-ltb i k lt) (spans i k first ik high))
+        (split k i)
+      where
+        here : from i i ≡ line ws i i
+        here = let e : line ws i i ≡ 0 = omega (arith, line-scale ws i i first (omega arith)) in rw (le-ltb i i (omega arith)) (sym e)
+
+    agrees : Agrees (textOf l ws) (penalty l) from (span S) (λ k. costOf (getD B (k - 1) 0)) i
+    unfolding textOf lines
     agrees = record {
-      formula = λ x low high. refl;
-      from-start = λ k ik high. spans i k first ik high;
+      inside = λ x low high. refl;
+      from-start = from-start;
       between = λ j k ij jk high. spans j k (omega arith) jk high;
       later = λ k ik high.
-          ap costOf (d .best k ik (omega (arith, sized))) ∙ entry-back k (omega arith) (omega (arith, sized)) (best l ws k) refl;
+          let inside : k ≤ length S = omega (arith, held-size) in
+          ap costOf (best-held k first ik inside) ∙ entry-back (best l ws k) (λ v e. fits k v (omega arith) inside e);
     }
 
-    -- the rules of start i on the strips are those on the words
-    pub done-rules : i ≤ length ws → (s : Standing) → afterStarts (textOf l ws) (length ws) (length ws - i) .stands ≡ s →
-        atStart (textIn l S B) i s ≡ queueAt l ws i
-    unfolding textIn queueAt
-    done-rules early s e =
-        subst (λ (z : Standing). atStart (textIn l S B) i z ≡ atStart (textOf l ws) i (afterStarts (textOf l ws) (length ws) (length ws - i) .stands)) e
-        (atStart-same l ws (penalty l) (span S) (span S) (λ k. costOf (getD B (k - 1) 0)) i first agrees (limits .lmin-low)
-        (afterStarts (textOf l ws) (length ws) (length ws - i) .stands) (ready-at l ws (d .holds .passed) i early))
+    module _ (early : i ≤ length ws) where
+      -- the rules of start i on the strips are those on the words
+      pub held-rules : (s : Standing) → afterStarts (textOf l ws) (length ws) (length ws - i) .stands ≡ s →
+          atStart (textHeld l S B i) i s ≡ queueAt (textOf l ws) (length ws) i
+      unfolding textIn queueAt textOf lines from
+      held-rules s e =
+          subst (λ (z : Standing). atStart (textHeld l S B i) i z ≡ queueAt (textOf l ws) (length ws) i) e
+          (atStart-same (scaled l ws (d .holds .passed)) (length S) (λ j. 0) first agrees (afterStarts (textOf l ws) (length ws) (length ws - i) .stands)
+          (stood-before (scaled l ws (d .holds .passed)) (length ws) (size l ws (d .holds .passed)) i early))
 
-    -- ---- what start i takes is its best and its chosen next
-    module _ (early : i ≤ length ws) (q : List ℕ) (e : queueAt l ws i .stands .queue ≡ q) where
-      live : Every (Live l ws i) q
-      live = subst (Every (Live l ws i)) e (held-at l ws (d .holds .passed) i first early .0 .live)
-
-      F-strips : (j : ℕ) → Live l ws i j → F (textIn l S B) i j ≡ F (textOf l ws) i j
-      unfolding textIn
-      F-strips j v = F-same l ws (penalty l) (span S) (span S) (λ k. costOf (getD B (k - 1) 0)) i first agrees j v
-
-      last-span : span S i (length S) ≡ line ws i (end ws)
-      last-span = ap (span S i) sized ∙ spans i (end ws) first (omega arith) (omega arith)
-
-      from-front : (q : List ℕ) → Every (Live l ws i) q → Chooses l ws i q →
-          (frontBest (textIn l S B) i q ≡ bestEntry (best l ws i)) × (front q ≡ chosenNext l ws i)
-      unfolding bestEntry
-      from-front [] v c = (rw (c .0), sym (c .1))
-      from-front (j ∷ q) v c = (F-strips j (v .0) ∙ rw (c .0), sym (c .1))
-
-      pub done-takes : (takenBest (textIn l S B) (length S) i q ≡ bestEntry (best l ws i)) × (takenNext (textIn l S B) (length S) i q ≡ chosenNext l ws i)
-      unfolding takenBest takenNext textIn bestEntry
-      done-takes = go (leb (span S i (length S)) (l .lopt)) refl
-        where
-          go : (b : Bool) → leb (span S i (length S)) (l .lopt) ≡ b →
-              (if b 0 (frontBest (textIn l S B) i q) ≡ bestEntry (best l ws i)) × (if b (length S) (front q) ≡ chosenNext l ws i)
-          go true h =
-              let s = short-last l ws (limits .lopt-high) i early (rw last-span at (leb-true (span S i (length S)) (l .lopt) h)) in
-              (rw (s .0), sized ∙ sym (s .1))
-          go false h =
-              from-front q live (subst (Chooses l ws i) e (front-is-chosen l ws (d .holds .passed) i first early (rw last-span at (leb-false (span S i (length S)) (l .lopt) h))))
+      -- and what it takes is its best and its chosen next
+      pub held-takes : (q : List ℕ) → queueAt (textOf l ws) (length ws) i .stands .queue ≡ q →
+          (takenBest (textHeld l S B i) i q ≡ best l ws i) × (takenNext (textHeld l S B i) i q ≡ chosenNext l ws i)
+      unfolding textIn textOf lines from
+      held-takes q e =
+          let passed = d .holds .passed in
+          let live = subst (Every (Measured (textOf l ws) i)) e (stood-after (scaled l ws passed) (length ws) (size l ws passed) i first early .held .live) in
+          let same = taken-same (scaled l ws passed) (length S) (λ j. 0) first agrees (omega arith) held-size q live in
+          let takes = start-takes l ws passed i first early in
+          (same .0 ∙ rw e at (takes .0), same .1 ∙ rw e at (takes .1))

@@ -1,5 +1,5 @@
-pub mod Taking
 pub mod Agreeing
+pub mod Taking
 pub mod Starting
 pub mod Ends
 pub mod Filling

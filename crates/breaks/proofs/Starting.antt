@@ -1,97 +1,144 @@
 -- The starts, one after the other, each lent the moves strip from the present count on. Assumes nothing but what each law states.
-use Prim.Native.Nat.{ℕ, suc, _+_, _-_, _*_, _≤_, _<_}
+use Prim.Native.Nat.{ℕ, suc, _+_, _-_, _*_, _^_, _≤_, _<_}
 use mathlib.Core.Path.{_≡_, ap, sym, _∙_}
-use mathlib.Core.Logic.{⊎-elim}
 use mathlib.Core.List.{List, _++_, map}
 use native.Mathlib.Omega.{arith}
 use borrow.Rule.Slice.PartMut.{putMid}
-use lib.ListN.{length, getD, take, drop, set, length-set, length-append, length-drop}
-use lib.Seq.{slice, length-slice, getD-set-same, getD-set-other}
-use Rattle.laws.specs.Number.{split}
-use Rattle.laws.specs.Members.{every-map}
+use lib.ListN.{length, getD, take, drop, set, length-append, length-drop}
+use lib.Seq.{length-slice, getD-set-other}
+use Rattle.laws.specs.Part.{listed}
 use Rattle.laws.specs.Strip.{over, onward, over-onward, length-over, lent-is}
 use Rattle.paper.specs.declared.Limits.{Limits}
 use Rattle.paper.specs.Allowed.{limitsHold}
-use Rattle.paper.specs.Paragraph as Paragraph
-use Rattle.paper.specs.Paragraph.{end, chosenNext}
+use Rattle.paper.specs.Paragraph.{chosenNext}
 use Rattle.paper.specs.Moves.{Taken, code, joined}
-use Rattle.paper.specs.QueueRules.{Standing, textOf, atStart, afterStarts, queueAt}
+use Rattle.paper.specs.QueueRules.{Text, Standing, textOf, atStart, afterStarts, queueAt}
 use Rattle.paper.specs.Strips.{bestEntry}
-use Rattle.queue_theory.specs.Count.{afterStarts-count, moves-so-far}
-use Rattle.lines.specs.Held.{textIn}
+use Rattle.queue_theory.specs.Count.{afterStarts-count}
+use Rattle.queue_theory.specs.Paragraph.{scaled, size}
+use Rattle.queue_theory.specs.Ready.{moves-so-far}
+use Rattle.strips.specs.Filling.{Entered, entered-more}
 use Rattle.strips.specs.Running.{Ran, ran-lent, map-append, length-codes}
-use Rattle.strips.specs.Words.{wordsOf, Holds, holds-length}
+use Rattle.strips.specs.Words.{wordsOf, Holds, holds-length, holds-rising}
+use Rattle.lines.specs.declared.Measure.{Measure}
+use Rattle.lines.specs.Held.{begins, textIn}
+use Rattle.lines.specs.Asks.{Beginning, Placed}
 use Rattle.queue.specs.declared.Queue.{Queue}
-use Rattle.queue.specs.Asks.{Member, Queued, StartAsks, Left}
-use Rattle.breaks.specs.Asks.{SettleAsks, Settles}
-use Rattle.breaks.proofs.Agreeing.{Done, done-words, done-bests, done-rules, done-takes}
+use Rattle.queue.specs.Asks.{start, stood, Queued, StartAsks, StartLeaves}
+use Rattle.queue.specs.Next.{queued-map}
+use Rattle.breaks.specs.Asks.{bestAt, SettleAsks, Settles}
+use Rattle.breaks.proofs.Agreeing.{Done, held-ranges, held-bests, held-place, held-known, held-rules, held-takes}
+use Rattle.breaks.proofs.Taking.{taken-numbers}
 
 -- the moves of all starts down to i + 1, and what stands then
 abbrev pub soFar : Limits → List ℕ → ℕ → Taken Standing
 soFar l ws i = afterStarts (textOf l ws) (length ws) (length ws - i)
+
+-- where the queue stands in its strip
+abbrev pub standsIn : List ℕ → Queue → Standing
+standsIn Q q = record { queue = listed (stood Q q); candidate = q .candidate }
+
+-- a member before start i: its line from the start above was at least lmin, and it has a setting
+pub record Waiting (l : Limits) (S B : List ℕ) (i k : ℕ) : Type 0 where
+  pub within : k ≤ length S
+  pub reach : getD S i 0 + l .lmin ≤ getD S (k - 1) 0
+  pub number : getD B (k - 1) 0 < 2 ^ 41
 
 -- the starts down to i + 1 are done
 pub record Started (l : Limits) (S m₀ Q B N m : List ℕ) (q : Queue) (i : ℕ) : Type 0 where
   pub low : i ≤ length (wordsOf S)
   pub moves : m ≡ over (map code (soFar l (wordsOf S) i .moves)) m₀
   pub count : q .moves ≡ length (soFar l (wordsOf S) i .moves)
-  pub stands : soFar l (wordsOf S) i .stands ≡ record { queue = slice (q .front) (q .end) Q; candidate = q .candidate }
-  pub queued : Queued l S B (i + 1) Q (q .front) (q .end) (q .candidate)
-  pub bests : Done l S B i
-  pub next : (k : ℕ) → i < k → k ≤ length (wordsOf S) → getD N (k - 1) 0 ≡ chosenNext l (wordsOf S) k
-  pub end-next : getD N (length (wordsOf S)) 0 ≡ 0
-  pub next-size : length N ≡ length S
+  pub stands : soFar l (wordsOf S) i .stands ≡ standsIn Q q
+  pub queued : Queued (Waiting l S B i) (stood Q q) (q .candidate)
+  pub near : i + 1 ≤ q .candidate
+  pub done : Done l S B i
+  pub nexts : Entered (chosenNext l (wordsOf S)) 1 (length (wordsOf S)) (i + 1) N
   pub queue-size : length Q ≡ length (wordsOf S)
 
-module _ (l : Limits) (S m₀ : List ℕ) (holds : Holds (limitsHold l) S) (room : 2 * length (wordsOf S) ≤ length m₀) where
+module _ {l : Limits} {S m₀ Q B N m : List ℕ} {q : Queue} {i : ℕ} (s : Started l S m₀ Q B N m q i)
+    (room : 2 * length (wordsOf S) ≤ length m₀) where
   abbrev ws : List ℕ
   ws = wordsOf S
+
+  holds : Holds (limitsHold l) S
+  holds = s .done .holds
 
   sized : length S ≡ length ws + 1
   sized = holds-length (limitsHold l) S holds
 
-  module _ (Q B N m : List ℕ) (q : Queue) (i : ℕ) (s : Started l S m₀ Q B N m q i) where
-    so-many : q .moves ≤ 2 * length ws
-    so-many = omega (arith, s .count, moves-so-far l ws (holds .passed) (length ws - i) (omega arith))
+  few-moves : (k : ℕ) → k ≤ length ws → length (soFar l ws k .moves) ≤ 2 * length ws
+  few-moves k h = moves-so-far (scaled l ws (holds .passed)) (length ws) (size l ws (holds .passed)) (length ws - k) (omega arith)
 
-    pub started-length : length m ≡ length m₀
-    started-length =
-        ap length (s .moves) ∙ length-over (map code (soFar l ws i .moves)) m₀ (omega (arith, so-many, s .count, length-codes (soFar l ws i .moves)))
+  pub started-length : length m ≡ length m₀
+  started-length =
+      ap length (s .moves)
+      ∙ length-over (map code (soFar l ws i .moves)) m₀ (omega (arith, few-moves i (s .low), length-codes (soFar l ws i .moves)))
 
-    pub started-room : q .moves ≤ length m₀
-    started-room = omega (arith, so-many)
+  pub started-room : q .moves ≤ length m₀
+  started-room = omega (arith, s .count, few-moves i (s .low))
 
-    module _ (first : 1 ≤ i) where
-      pub started-asks : StartAsks l i S B Q (q .front) (q .end) (q .candidate) 0 (length (take (length m - q .moves) (drop (q .moves) m)))
+  module _ (first : 1 ≤ i) where
+    pub started-place : Beginning l (getD S (i - 1) 0)
+    started-place = record {
+      ranges = held-ranges l S B i (s .done);
+      bounded = held-place l S B i (s .done) i first (omega (arith, sized, s .low));
+    }
+
+    module _ (p : Measure) (placed : Placed l p) (begun : begins l p ≡ getD S (i - 1) 0) where
+      -- the line from start i is longer still
+      rises : getD S (i - 1) 0 ≤ getD S i 0
+      rises = holds-rising (limitsHold l) S holds (i - 1) i (omega arith) (omega (arith, sized, s .low))
+
+      pub started-asks : StartAsks (start l p S B) i Q q (length (take (length m - q .moves) (drop (q .moves) m)))
       started-asks = record {
-        words = done-words l S B i (s .bests);
-        bests = done-bests l S B i (s .bests) first;
-        queued = s .queued;
+        readable = record {
+          ranges = held-ranges l S B i (s .done);
+          placed = placed;
+          rising = holds-rising (limitsHold l) S holds;
+          few = omega (arith, s .queue-size, holds .passed .few);
+          ends = omega (arith, sized, s .queue-size);
+          bests = omega (arith, held-bests l S B i (s .done), sized, s .queue-size);
+        };
+        known = held-known l S B i (s .done) first;
+        queued = queued-map (λ k below v. record {
+          within = v .within;
+          reach = omega (arith, v .reach, placed .near, begun, rises);
+          number = v .number;
+        }) (s .queued);
         first = first;
-        enough = rw (lent-is m (q .moves), length-drop (q .moves) m) (omega (arith, count, stood, candidate, s .count, s .queued .near, started-length));
+        near = omega (arith, s .near);
+        enough = rw (lent-is m (q .moves), length-drop (q .moves) m) (omega (arith, count, stand, candidate, s .count, s .near, started-length));
       }
         where
           count : length (soFar l ws i .moves) + length (soFar l ws i .stands .queue) + 2 * soFar l ws i .stands .candidate ≤ 2 * (length ws + 1)
           count = afterStarts-count (textOf l ws) (length ws) (length ws - i)
 
-          stood : length (soFar l ws i .stands .queue) ≡ q .end - q .front
-          stood = ap (λ (z : Standing). length (z .queue)) (s .stands) ∙ length-slice (q .front) (q .end) Q (s .queued .standing)
+          stand : length (soFar l ws i .stands .queue) ≡ q .end - q .front
+          stand = ap (λ (z : Standing). length (z .queue)) (s .stands) ∙ length-slice (q .front) (q .end) Q (s .queued .standing)
 
           candidate : soFar l ws i .stands .candidate ≡ q .candidate
           candidate = ap (λ (z : Standing). z .candidate) (s .stands)
 
-      module _ (at : Queue) (Q′ n : List ℕ)
-          (left : Left l i S B (atStart (textIn l S B) i (record { queue = slice (q .front) (q .end) Q; candidate = q .candidate })) Q 0 (take (length m - q .moves) (drop (q .moves) m)) at Q′ n) where
-        rule : atStart (textIn l S B) i (record { queue = slice (q .front) (q .end) Q; candidate = q .candidate }) ≡ queueAt l ws i
-        rule = done-rules l S B i (s .bests) first (s .low) (record { queue = slice (q .front) (q .end) Q; candidate = q .candidate }) (s .stands)
+      module _ (r : Queue) (Q′ n : List ℕ)
+          (leaves : StartLeaves (start l p S B) i Q q (take (length m - q .moves) (drop (q .moves) m)) r Q′ n) where
+        text : Text
+        text = textIn l S B (begins l p)
+
+        rule : atStart text i (standsIn Q q) ≡ queueAt (textOf l ws) (length ws) i
+        unfolding text
+        rule =
+            ap (λ (x : ℕ). atStart (textIn l S B x) i (standsIn Q q)) begun
+            ∙ held-rules l S B i (s .done) first (s .low) (standsIn Q q) (s .stands)
 
         -- in the whole strip the start went on from the present count
-        ran : Ran (atStart (textIn l S B) i (record { queue = slice (q .front) (q .end) Q; candidate = q .candidate })) (q .moves) m
-            (putMid (q .moves) (length m - q .moves) m n) (q .moves + at .moves) (record { queue = slice (at .front) (at .end) Q′; candidate = at .candidate })
-        ran = ran-lent (atStart (textIn l S B) i (record { queue = slice (q .front) (q .end) Q; candidate = q .candidate })) (q .moves) m n (at .moves)
-            (record { queue = slice (at .front) (at .end) Q′; candidate = at .candidate }) (omega (arith, started-room, started-length)) (left .ran)
+        ran : Ran (atStart text i (standsIn Q q)) (q .moves) m (putMid (q .moves) (length m - q .moves) m n) (q .moves + r .moves) (standsIn Q′ r)
+        unfolding text
+        ran =
+            ran-lent (atStart text i (standsIn Q q)) (q .moves) m n (r .moves) (standsIn Q′ r) (omega (arith, started-room, started-length))
+            (leaves .left .ran)
 
-        stands : queueAt l ws i .stands ≡ record { queue = slice (at .front) (at .end) Q′; candidate = at .candidate }
+        stands : queueAt (textOf l ws) (length ws) i .stands ≡ standsIn Q′ r
         stands = ap (λ (t : Taken Standing). t .stands) (sym rule) ∙ ran .stands
 
         -- one start more
@@ -102,98 +149,83 @@ module _ (l : Limits) (S m₀ : List ℕ) (holds : Holds (limitsHold l) S) (room
             let f : length ws - (length ws - i) ≡ i = omega (arith, s .low) in
             rw (e, f)
 
-        more : soFar l ws (i - 1) .moves ≡ soFar l ws i .moves ++ queueAt l ws i .moves
+        more : soFar l ws (i - 1) .moves ≡ soFar l ws i .moves ++ queueAt (textOf l ws) (length ws) i .moves
         unfolding queueAt
         more = ap (λ (t : Taken Standing). t .moves) further
 
-        counted : q .moves + at .moves ≡ length (soFar l ws (i - 1) .moves)
+        counted : q .moves + r .moves ≡ length (soFar l ws (i - 1) .moves)
         counted =
             ran .count
             ∙ ap (λ (t : Taken Standing). q .moves + length (t .moves)) rule
-            ∙ ap (λ (k : ℕ). k + length (queueAt l ws i .moves)) (s .count)
-            ∙ sym (ap length more ∙ length-append (soFar l ws i .moves) (queueAt l ws i .moves))
+            ∙ ap (λ (k : ℕ). k + length (queueAt (textOf l ws) (length ws) i .moves)) (s .count)
+            ∙ sym (ap length more ∙ length-append (soFar l ws i .moves) (queueAt (textOf l ws) (length ws) i .moves))
 
-        pub started-fits : q .moves + at .moves ≤ length m₀
-        started-fits = omega (arith, counted, moves-so-far l ws (holds .passed) (length ws - (i - 1)) (omega (arith, s .low)))
+        pub started-fits : q .moves + r .moves ≤ length m₀
+        started-fits = omega (arith, counted, few-moves (i - 1) (omega (arith, s .low)))
 
         written : putMid (q .moves) (length m - q .moves) m n ≡ over (map code (soFar l ws (i - 1) .moves)) m₀
         written =
+            let own = queueAt (textOf l ws) (length ws) i .moves in
             ran .moves
             ∙ ap (λ (t : Taken Standing). onward (q .moves) (map code (t .moves)) m) rule
-            ∙ ap (onward (q .moves) (map code (queueAt l ws i .moves))) (s .moves)
-            ∙ over-onward (map code (soFar l ws i .moves)) (map code (queueAt l ws i .moves)) m₀ (q .moves) (s .count ∙ sym (length-codes (soFar l ws i .moves)))
-            ∙ ap (λ (c : List ℕ). over c m₀) (sym (ap (map code) more ∙ map-append (soFar l ws i .moves) (queueAt l ws i .moves)))
+            ∙ ap (onward (q .moves) (map code own)) (s .moves)
+            ∙ over-onward (map code (soFar l ws i .moves)) (map code own) m₀ (q .moves) (s .count ∙ sym (length-codes (soFar l ws i .moves)))
+            ∙ ap (λ (c : List ℕ). over c m₀) (sym (ap (map code) more ∙ map-append (soFar l ws i .moves) own))
 
-        pub started-settle : SettleAsks l i S Q′ at B N
+        pub started-settle : SettleAsks i S Q′ r B N
         started-settle = record {
-          choose = record { words = done-words l S B i (s .bests); queued = left .queued; first = first; early = omega (arith, sized, s .low) };
-          nexts = s .next-size;
+          choose = record {
+            some = omega (arith, sized);
+            few = omega (arith, sized, holds .passed .few);
+            standing = leaves .left .queued .standing;
+            short = omega (arith, leaves .left .same, s .queue-size, holds .passed .few);
+          };
+          first = first;
+          early = omega (arith, sized, s .low);
+          best = held-bests l S B i (s .done);
+          next = omega (arith, s .nexts .size, sized);
         }
 
-        module _ (B′ N′ : List ℕ) (w : Settles (textIn l S B) (length S) i (slice (at .front) (at .end) Q′) B N B′ N′) where
-          takes : (B′ ≡ set B (i - 1) (bestEntry (Paragraph.best l ws i))) × (N′ ≡ set N (i - 1) (chosenNext l ws i))
+        module _ (B′ N′ : List ℕ) (w : Settles i (p .goal) S Q′ r B N B′ N′) where
+          takes : (B′ ≡ set B (i - 1) (bestAt l ws i)) × (N′ ≡ set N (i - 1) (chosenNext l ws i))
           takes =
-              let t = done-takes l S B i (s .bests) first (s .low) (slice (at .front) (at .end) Q′) (ap (λ (z : Standing). z .queue) stands) in
-              (w .best ∙ ap (set B (i - 1)) (t .0), w .next ∙ ap (set N (i - 1)) (t .1))
+              let q′ : List ℕ = listed (stood Q′ r) in
+              let last : getD S (i - 1) 0 ≤ getD S (length S - 1) 0 =
+              holds-rising (limitsHold l) S holds (i - 1) (length S - 1) (omega (arith, sized, s .low)) (omega (arith, sized)) in
+              let goal : p .goal ≡ getD S (i - 1) 0 + l .lopt = omega (arith, placed .goal, begun) in
+              let cost = rw begun at (leaves .cost) in
+              let u = taken-numbers l S B (getD S (i - 1) 0) i (omega (arith, sized, s .low)) last q′ goal cost in
+              let t = held-takes l S B i (s .done) first (s .low) q′ (ap (λ (z : Standing). z .queue) stands) in
+              (w .best ∙ ap (set B (i - 1)) (u .0 ∙ ap bestEntry (t .0)), w .next ∙ ap (set N (i - 1)) (u .1 ∙ t .1))
 
-          -- entries of other starts are as they were
-          other : (k : ℕ) → i < k → getD B′ (k - 1) 0 ≡ getD B (k - 1) 0
-          other k h = ap (λ (b : List ℕ). getD b (k - 1) 0) (takes .0) ∙ getD-set-other B (i - 1) (k - 1) (bestEntry (Paragraph.best l ws i)) 0 (λ e. omega arith)
-
-          size : length B′ ≡ length B
-          size = ap length (takes .0) ∙ length-set B (i - 1) (bestEntry (Paragraph.best l ws i))
-
-          best-at : (k : ℕ) → i - 1 < k → k ≤ length S → getD B′ (k - 1) 0 ≡ bestEntry (Paragraph.best l ws k)
-          best-at k h g =
-              ⊎-elim
-              (λ le. let e : k ≡ i = omega arith in
-              rw (e, takes .0) (getD-set-same B (i - 1) (bestEntry (Paragraph.best l ws i)) 0 (omega (arith, s .bests .size, sized, s .low))))
-              (λ gt. other k gt ∙ s .bests .best k gt g)
-              (split k i)
-
-          next-at : (k : ℕ) → i - 1 < k → k ≤ length ws → getD N′ (k - 1) 0 ≡ chosenNext l ws k
-          next-at k h g =
-              ⊎-elim
-              (λ le. let e : k ≡ i = omega arith in
-              rw (e, takes .1) (getD-set-same N (i - 1) (chosenNext l ws i) 0 (omega (arith, s .next-size, sized, s .low))))
-              (λ gt. ap (λ (b : List ℕ). getD b (k - 1) 0) (takes .1) ∙ getD-set-other N (i - 1) (k - 1) (chosenNext l ws i) 0 (λ e. omega arith) ∙ s .next k gt g)
-              (split k i)
-
-          after-start : atStart (textOf l ws) i (soFar l ws i .stands) .stands ≡ record { queue = slice (at .front) (at .end) Q′; candidate = at .candidate }
+          after-start : atStart (textOf l ws) i (soFar l ws i .stands) .stands ≡ standsIn Q′ r
           unfolding queueAt
           after-start = stands
 
-          member : (k : ℕ) → Member l S B i k → Member l S B′ i k
-          member k v = record {
-            break = v .break;
-            measure = v .measure;
-            number = record { within = omega (arith, size, v .number .within); small = omega (arith, other k (v .break .above), v .number .small) };
-          }
+          -- entries of later starts are as they were
+          other : (k : ℕ) → i < k → getD B′ (k - 1) 0 ≡ getD B (k - 1) 0
+          other k h =
+              ap (λ (b : List ℕ). getD b (k - 1) 0) (takes .0) ∙ getD-set-other B (i - 1) (k - 1) (bestAt l ws i) 0 (λ e. omega arith)
 
           pub started-next : Started l S m₀ Q′ B′ N′ (putMid (q .moves) (length m - q .moves) m n)
-              (record { front = at .front; end = at .end; candidate = at .candidate; moves = q .moves + at .moves }) (i - 1)
+              (record { front = r .front; end = r .end; candidate = r .candidate; moves = q .moves + r .moves; cost = r .cost }) (i - 1)
           started-next =
               let e : i - 1 + 1 ≡ i = omega arith in
-              let u = left .queued in
               record {
                 low = omega (arith, s .low);
                 moves = written;
                 count = counted;
                 stands = ap (λ (t : Taken Standing). t .stands) further ∙ after-start;
-                queued = rw e (record {
-                  order = u .order;
-                  standing = u .standing;
-                  short = u .short;
-                  each = every-map (Member l S B i) (Member l S B′ i) member (slice (at .front) (at .end) Q′) (u .each);
-                  falls = u .falls;
-                  below = u .below;
-                  near = u .near;
-                  within = u .within;
-                  place = u .place;
-                });
-                bests = record { holds = holds; size = size ∙ s .bests .size; best = best-at };
-                next = next-at;
-                end-next = ap (λ (b : List ℕ). getD b (length ws) 0) (takes .1) ∙ getD-set-other N (i - 1) (length ws) (chosenNext l ws i) 0 (λ z. omega (arith, s .low)) ∙ s .end-next;
-                next-size = ap length (takes .1) ∙ length-set N (i - 1) (chosenNext l ws i) ∙ s .next-size;
-                queue-size = left .same ∙ s .queue-size;
+                queued = queued-map (λ k below v. record {
+                  within = v .within;
+                  reach = omega (arith, v .reach, placed .near, begun);
+                  number = omega (arith, other k (omega (arith, leaves .left .near)), v .number);
+                }) (leaves .left .queued);
+                near = omega (arith, leaves .left .near);
+                done = record {
+                  holds = holds;
+                  bests = rw e (entered-more (s .done .bests) i (i - 1) B′ (omega arith) (s .low) e (takes .0));
+                };
+                nexts = rw e (entered-more (s .nexts) i (i - 1) N′ (omega arith) (s .low) e (takes .1));
+                queue-size = leaves .left .same ∙ s .queue-size;
               }

@@ -1,50 +1,59 @@
--- The three cases of what a start takes, in the values that the code has at hand. Assumes nothing.
-use Prim.Native.Nat.{ℕ, _-_, _^_, _≤_, _<_}
-use mathlib.Core.Path.{_≡_, ap, _∙_}
+-- What a start takes, in the values that the code has at hand. Assumes nothing but what each law states.
+use Prim.Native.Nat.{ℕ, _+_, _-_, _≤_, _<_}
+use mathlib.Core.Path.{_≡_, refl, sym}
+use mathlib.Core.Bool.{Bool, true, false}
 use mathlib.Core.List.{List}
 use native.Mathlib.Omega.{arith}
-use borrow.Author.Tests.{le-leb, lt-leb}
+use borrow.Author.Tests.{le-leb, lt-leb, lt-ltb, leb-true, leb-false}
+use lib.Dec.{leb}
 use lib.ListN.{length, getD}
-use lib.Seq.{slice}
-use Rattle.laws.specs.Members.{slice-every}
+use Rattle.laws.specs.Number.{if}
+use Rattle.laws.specs.Part.{part-front, part-none}
 use Rattle.paper.specs.declared.Limits.{Limits}
-use Rattle.paper.specs.QueueRules.{F}
-use Rattle.lines.specs.Held.{span, textIn}
-use Rattle.lines.specs.Asks.{Through}
+use Rattle.paper.specs.Lines.{free}
+use Rattle.paper.specs.QueueRules.{frontBest, frontNext, takenBest, takenNext}
+use Rattle.paper.specs.Strips.{bestEntry}
+use Rattle.lines.specs.Held.{textIn}
 use Rattle.queue.specs.declared.Queue.{Queue}
-use Rattle.queue.specs.Asks.{Member}
-use Rattle.queue.proofs.Ends.{part-front, part-none}
-use Rattle.queue.proofs.Members.{member-through}
-use Rattle.breaks.specs.Asks.{ChooseAsks, Chooses, takenBest, takenNext}
+use Rattle.breaks.specs.Asks.{ChooseAsks, Chooses, short?}
 
-module _ (l : Limits) (i : ℕ) (S B Q : List ℕ) (q : Queue) (a : ChooseAsks l i S B Q q) where
-  abbrev stands : List ℕ
-  stands = slice (q .front) (q .end) Q
+module _ {goal : ℕ} {E Q : List ℕ} {q : Queue} (a : ChooseAsks E Q q) where
+  pub taking-end : getD E (length E - 1) 0 ≤ goal → Chooses goal E Q q (record { cost = 0; next = length E })
+  taking-end h = let e = le-leb (getD E (length E - 1) 0) goal h in record { cost = rw e; next = rw e }
 
-  -- w is the front's index as the code has it
-  pub taking-through : (w : ℕ) → q .front < q .end → w ≡ getD Q (q .front) 0 → Through l S B i w
-  taking-through w h e =
-      member-through l S B i (a .words) (getD Q (q .front) 0) w e
-      (slice-every (Member l S B i) (q .front) (q .end) Q (a .queued .standing) (a .queued .each) (q .front) (omega arith) h)
+  pub taking-none : goal < getD E (length E - 1) 0 → q .end ≤ q .front → Chooses goal E Q q (record { cost = q .cost; next = 0 })
+  taking-none h g =
+      let e = lt-leb (getD E (length E - 1) 0) goal h in
+      record { cost = rw e; next = rw (e, part-none Q (a .standing) g) }
 
-  module _ (x : ℕ) (v : x ≡ span S i (length S)) where
-    pub taking-end : x ≤ l .lopt → Chooses (textIn l S B) (length S) i stands (record { cost = 0; next = length S })
-    unfolding takenBest takenNext textIn
-    taking-end h =
-        let e = le-leb (span S i (length S)) (l .lopt) (rw v at h) in
-        record { cost = rw e; next = rw e }
+  pub taking-front : goal < getD E (length E - 1) 0 → q .front < q .end →
+      Chooses goal E Q q (record { cost = q .cost; next = getD Q (q .front) 0 })
+  taking-front h g =
+      let e = lt-leb (getD E (length E - 1) 0) goal h in
+      record { cost = rw e; next = rw (e, part-front Q (a .standing) g) }
 
-    pub taking-none : l .lopt < x → q .end ≤ q .front → Chooses (textIn l S B) (length S) i stands (record { cost = 2 ^ 64 - 1; next = 0 })
-    unfolding takenBest takenNext textIn
-    taking-none h g =
-        let e = lt-leb (span S i (length S)) (l .lopt) (rw v at h) in
-        let s = part-none Q (q .front) (q .end) g (a .queued .standing) in
-        record { cost = rw (e, s); next = rw (e, s) }
+-- ---- the numbers are those of the rules: the line to the end is at most lopt where it ends no later than the goal
+module _ (l : Limits) (E B : List ℕ) (x i : ℕ) (early : i < length E) (reach : x ≤ getD E (length E - 1) 0) (q : List ℕ) where
+  taken : (b : Bool) → leb (getD E (length E - 1) 0) (x + l .lopt) ≡ b →
+      (bestEntry (takenBest (textIn l E B x) i q) ≡ if b 0 (bestEntry (frontBest (textIn l E B x) i q)))
+      × (takenNext (textIn l E B x) i q ≡ if b (length E) (frontNext q))
+  unfolding takenBest takenNext free textIn bestEntry
+  taken true e =
+      let h = leb-true (getD E (length E - 1) 0) (x + l .lopt) e in
+      let f = le-leb (getD E (length E - 1) 0 - x) (l .lopt) (omega arith) in (
+        rw (lt-ltb i (length E) early, le-leb 0 (getD E (length E - 1) 0 - x) (omega arith), f),
+        rw (lt-ltb i (length E) early, le-leb 0 (getD E (length E - 1) 0 - x) (omega arith), f),
+      )
+  taken false e =
+      let h = leb-false (getD E (length E - 1) 0) (x + l .lopt) e in
+      let f = lt-leb (getD E (length E - 1) 0 - x) (l .lopt) (omega arith) in (
+        rw (lt-ltb i (length E) early, le-leb 0 (getD E (length E - 1) 0 - x) (omega arith), f),
+        rw (lt-ltb i (length E) early, le-leb 0 (getD E (length E - 1) 0 - x) (omega arith), f),
+      )
 
-    pub taking-front : (w y : ℕ) → l .lopt < x → q .front < q .end → w ≡ getD Q (q .front) 0 → y ≡ F (textIn l S B) i w →
-        Chooses (textIn l S B) (length S) i stands (record { cost = y; next = getD Q (q .front) 0 })
-    unfolding takenBest takenNext textIn
-    taking-front w y h g u f =
-        let e = lt-leb (span S i (length S)) (l .lopt) (rw v at h) in
-        let s = part-front Q (q .front) (q .end) g (a .queued .standing) in
-        record { cost = rw (e, s) (f ∙ ap (F (textIn l S B) i) u); next = rw (e, s) }
+  pub taken-numbers : {goal c : ℕ} → goal ≡ x + l .lopt → c ≡ bestEntry (frontBest (textIn l E B x) i q) →
+      (if (short? goal E) 0 c ≡ bestEntry (takenBest (textIn l E B x) i q))
+      × (if (short? goal E) (length E) (frontNext q) ≡ takenNext (textIn l E B x) i q)
+  taken-numbers e f =
+      let t = taken (leb (getD E (length E - 1) 0) (x + l .lopt)) refl in
+      rw (e, f) (sym (t .0), sym (t .1))

@@ -1,52 +1,50 @@
--- What a start takes, and what the functions of this crate ask and leave. Assumes nothing.
-use Prim.Native.Nat.{ℕ, _+_, _-_, _*_, _^_, _≤_, _<_}
+-- What the functions of this crate ask and leave. Assumes nothing.
+use Prim.Native.Nat.{ℕ, _+_, _-_, _*_, _≤_}
 use mathlib.Core.Path.{_≡_}
-use mathlib.Core.List.{List, [], _∷_, _++_, map}
+use mathlib.Core.Bool.{Bool}
+use mathlib.Core.List.{List, map}
 use lib.Dec.{leb}
-use lib.ListN.{length, set, replicate}
+use lib.ListN.{length, getD, set, replicate}
 use Rattle.laws.specs.Number.{if}
+use Rattle.laws.specs.Part.{listed}
 use Rattle.laws.specs.Strip.{over}
 use Rattle.paper.specs.declared.Limits.{Limits}
 use Rattle.paper.specs.declared.Answer.{Answer}
 use Rattle.paper.specs.Allowed.{limitsHold, Passed}
 use Rattle.paper.specs.Moves.{code}
 use Rattle.paper.specs.Paragraph as Paragraph
-use Rattle.paper.specs.QueueRules.{Text, F, front, queueMoves}
-use Rattle.paper.specs.Strips.{entries, sums, bestEntry, ParagraphStrips, ParagraphOutcome}
-use Rattle.strips.specs.Words.{Holds}
+use Rattle.paper.specs.QueueRules.{frontNext, queueMoves}
+use Rattle.paper.specs.Strips.{entries, sums, bestEntry, ParagraphStrips, ParagraphOutcome, paragraphSet}
+use Rattle.strips.specs.Filling.{ended}
+use Rattle.strips.specs.Words.{wordsOf, Holds}
 use Rattle.queue.specs.declared.Queue.{Queue}
-use Rattle.queue.specs.Asks.{Words, Queued}
+use Rattle.queue.specs.Asks.{stood}
 use Rattle.breaks.specs.declared.Chosen.{Chosen}
 
--- ---- "Then the start takes n+1 if Line(i, n+1) ≤ lopt; otherwise the front is the chooser; with an empty queue there is no setting."
-abbrev pub frontBest : Text → ℕ → List ℕ → ℕ
-frontBest t i [] = 2 ^ 64 - 1
-frontBest t i (j ∷ q) = F t i j
+-- ---- what a start takes, on numbers: the last line is free where the end is not past the goal
+pub record ChooseAsks (E Q : List ℕ) (q : Queue) : Type 0 where
+  pub some : 1 ≤ length E
+  pub few : length E ≤ 4097
+  pub standing : q .end ≤ length Q
+  pub short : length Q ≤ 4096
 
--- the entries of start i, where e is the end
-unfoldable pub takenBest : Text → ℕ → ℕ → List ℕ → ℕ
-takenBest t e i q = if (leb (t .line i e) (t .limits .lopt)) 0 (frontBest t i q)
+abbrev pub short? : ℕ → List ℕ → Bool
+short? goal E = leb (getD E (length E - 1) 0) goal
 
-unfoldable pub takenNext : Text → ℕ → ℕ → List ℕ → ℕ
-takenNext t e i q = if (leb (t .line i e) (t .limits .lopt)) e (front q)
+pub record Chooses (goal : ℕ) (E Q : List ℕ) (q : Queue) (r : Chosen) : Type 0 where
+  pub cost : r .cost ≡ if (short? goal E) 0 (q .cost)
+  pub next : r .next ≡ if (short? goal E) (length E) (frontNext (listed (stood Q q)))
 
-pub record ChooseAsks (l : Limits) (i : ℕ) (S B Q : List ℕ) (q : Queue) : Type 0 where
-  pub words : Words l S B
-  pub queued : Queued l S B i Q (q .front) (q .end) (q .candidate)
+pub record SettleAsks (i : ℕ) (E Q : List ℕ) (q : Queue) (B N : List ℕ) : Type 0 where
+  pub choose : ChooseAsks E Q q
   pub first : 1 ≤ i
-  pub early : i < length S
+  pub early : i ≤ length E
+  pub best : length B ≡ length E
+  pub next : length N ≡ length E
 
-pub record Chooses (t : Text) (e i : ℕ) (q : List ℕ) (r : Chosen) : Type 0 where
-  pub cost : r .cost ≡ takenBest t e i q
-  pub next : r .next ≡ takenNext t e i q
-
-pub record SettleAsks (l : Limits) (i : ℕ) (S Q : List ℕ) (q : Queue) (B N : List ℕ) : Type 0 where
-  pub choose : ChooseAsks l i S B Q q
-  pub nexts : length N ≡ length S
-
-pub record Settles (t : Text) (e i : ℕ) (q B N B′ N′ : List ℕ) : Type 0 where
-  pub best : B′ ≡ set B (i - 1) (takenBest t e i q)
-  pub next : N′ ≡ set N (i - 1) (takenNext t e i q)
+pub record Settles (i goal : ℕ) (E Q : List ℕ) (q : Queue) (B N B′ N′ : List ℕ) : Type 0 where
+  pub best : B′ ≡ set B (i - 1) (if (short? goal E) 0 (q .cost))
+  pub next : N′ ≡ set N (i - 1) (if (short? goal E) (length E) (frontNext (listed (stood Q q))))
 
 -- ---- all starts, on strips that are exactly long enough
 pub record StartsAsk (l : Limits) (S B N Q m : List ℕ) : Type 0 where
@@ -56,21 +54,27 @@ pub record StartsAsk (l : Limits) (S B N Q m : List ℕ) : Type 0 where
   pub queue : length Q + 1 ≡ length S
   pub moves : 2 * length Q ≤ length m
 
+abbrev pub bestAt : Limits → List ℕ → ℕ → ℕ
+bestAt l ws i = bestEntry (Paragraph.best l ws i)
+
 abbrev pub bests : Limits → List ℕ → List ℕ
-bests l ws = entries (λ i. bestEntry (Paragraph.best l ws i)) 1 (length ws + 1)
+bests l ws = entries (bestAt l ws) 1 (length ws + 1)
 
 abbrev pub nexts : Limits → List ℕ → List ℕ
-nexts l ws = entries (Paragraph.chosenNext l ws) 1 (length ws) ++ (0 ∷ [])
+nexts l ws = ended (Paragraph.chosenNext l ws) 1 (length ws)
 
--- the bests, the chosen nexts and the moves of the text ws
-pub record Starts (l : Limits) (ws m₀ : List ℕ) (count : ℕ) (B N m : List ℕ) : Type 0 where
+-- the bests, the chosen nexts and the moves of the words
+pub record SetStarts (l : Limits) (ws m₀ : List ℕ) (count : ℕ) (B N m : List ℕ) : Type 0 where
   pub best : B ≡ bests l ws
   pub next : N ≡ nexts l ws
   pub moves : m ≡ over (map code (queueMoves l ws)) m₀
   pub counted : count ≡ length (queueMoves l ws)
 
+abbrev pub Starts : Limits → List ℕ → List ℕ → ℕ → List ℕ → List ℕ → List ℕ → Type 0
+Starts l S m₀ count B N m = SetStarts l (wordsOf S) m₀ count B N m
+
 -- ---- the strips, which may be longer
--- a text that refusals 1 to 5 pass, but for the room of the breaks
+-- words that refusals 1 to 5 pass, but for the room of the breaks
 pub record FillAsks (l : Limits) (ws S B N Q m : List ℕ) : Type 0 where
   pub passed : Passed (limitsHold l) ws
   pub sums : length ws + 1 ≤ length S
@@ -88,12 +92,15 @@ pub record Filled (l : Limits) (ws S₀ B₀ N₀ Q₀ m₀ : List ℕ) (count :
   pub moves : m ≡ over (map code (queueMoves l ws)) m₀
   pub counted : count ≡ length (queueMoves l ws)
 
--- a text that refusals 1 to 5 pass
+-- words that refusals 1 to 5 pass
 pub record SetAsks (l : Limits) (ws : List ℕ) (s : ParagraphStrips) : Type 0 where
   pub fill : FillAsks l ws (s .sums) (s .best) (s .next) (s .queue) (s .moves)
   pub breaks : length ws ≤ length (s .breaks)
 
 -- the answer and the strips are those of the outcome
-pub record Sets (o : ParagraphOutcome) (answer : Answer) (strips : ParagraphStrips) : Type 0 where
+pub record Sets (o : ParagraphOutcome) (answer : Answer) (exit : ParagraphStrips) : Type 0 where
   pub answered : answer ≡ o .answer
-  pub left : strips ≡ o .strips
+  pub left : exit ≡ o .strips
+
+abbrev pub IsSet : Limits → List ℕ → ParagraphStrips → Answer → ParagraphStrips → Type 0
+IsSet l ws s answer exit = Sets (paragraphSet l ws s (Paragraph.best l ws 1)) answer exit

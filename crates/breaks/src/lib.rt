@@ -1,6 +1,6 @@
 // The paragraph, on input that nothing refuses. Workshop parts: they ask what their callers meet.
-use lines::line;
-use lines::through;
+use lines::Measure;
+use lines::measure_from;
 use paper::Answer;
 use paper::Limits;
 use queue::Queue;
@@ -9,14 +9,8 @@ use strips::NONE;
 use strips::clear;
 use strips::fill_sums;
 use strips::follow;
-use strips::wide;
-ghost use lib.ListN.{length};
-ghost use lib.Seq.{slice};
-ghost use Rattle.lines.specs.Held.{textIn};
-ghost use Rattle.strips.specs.Words.{wordsOf};
-ghost use Rattle.breaks.specs.Asks.{ChooseAsks, Chooses, SettleAsks, Settles, StartsAsk, Starts, FillAsks, Filled, SetAsks, Sets};
-ghost use Rattle.paper.specs.Paragraph.{best as bestOf};
-ghost use Rattle.paper.specs.Strips.{paragraphStrips, paragraphSet};
+ghost use Rattle.paper.specs.Strips.{paragraphStrips};
+ghost use Rattle.breaks.specs.Asks.{ChooseAsks, Chooses, SettleAsks, Settles, StartsAsk, Starts, FillAsks, Filled, SetAsks, IsSet};
 
 // The best of a start and its chosen next.
 pub struct Chosen {
@@ -25,12 +19,13 @@ pub struct Chosen {
 }
 
 // "Then the start takes n+1 if Line(i, n+1) ≤ lopt; otherwise the front is the chooser; with an empty queue there is no setting."
-fn choose(l: Limits, i: usize, sums: &[u32], best: &[u64], queue: &[u32], q: Queue) -> Chosen
-    requires { ⌜ ChooseAsks l i (now sums) (now best) (now queue) q ⌝ }
-    ensures { λ r. ⌜ Chooses (textIn l (now (sums .entry)) (now (best .entry))) (length (now (sums .entry))) i (slice (q .front) (q .end) (now (queue .entry))) r ⌝ }
+// The queue's cost is NONE where it is empty.
+fn choose(p: Measure, ends: &[u32], queue: &[u32], q: Queue) -> Chosen
+    requires { ⌜ ChooseAsks (now ends) (now queue) q ⌝ }
+    ensures { λ r. ⌜ Chooses (p .goal) (now (ends .entry)) (now (queue .entry)) q r ⌝ }
 {
-    let end = sums.len();
-    if line(sums, i, end) <= l.lopt {
+    let end = ends.len();
+    if ends[end - 1] <= p.goal {
         return Chosen {
             cost: 0,
             next: end as u32,
@@ -39,31 +34,31 @@ fn choose(l: Limits, i: usize, sums: &[u32], best: &[u64], queue: &[u32], q: Que
     let front = q.front;
     if q.end <= front {
         return Chosen {
-            cost: NONE,
+            cost: q.cost,
             next: 0,
         };
     }
-    let j = queue[front];
     Chosen {
-        cost: through(l, sums, best, i, wide(j)),
-        next: j,
+        cost: q.cost,
+        next: queue[front],
     }
 }
 
 // Writes the best and the chosen next of start i.
 fn settle(
-    l: Limits,
     i: usize,
-    sums: &[u32],
+    p: Measure,
+    ends: &[u32],
     queue: &[u32],
     q: Queue,
     best: &mut [u64],
     next: &mut [u32],
 )
-    requires { ⌜ SettleAsks l i (now sums) (now queue) q (now best) (now next) ⌝ }
-    ensures { λ _. ⌜ Settles (textIn l (now (sums .entry)) (now (best .entry))) (length (now (sums .entry))) i (slice (q .front) (q .end) (now (queue .entry))) (now (best .entry)) (now (next .entry)) (now (best .exit)) (now (next .exit)) ⌝ }
+    requires { ⌜ SettleAsks i (now ends) (now queue) q (now best) (now next) ⌝ }
+    ensures { λ _. ⌜ Settles i (p .goal) (now (ends .entry)) (now (queue .entry)) q
+        (now (best .entry)) (now (next .entry)) (now (best .exit)) (now (next .exit)) ⌝ }
 {
-    let chosen = choose(l, i, sums, best, queue, q);
+    let chosen = choose(p, ends, queue, q);
     best[i - 1] = chosen.cost;
     next[i - 1] = chosen.next;
 }
@@ -78,7 +73,7 @@ fn starts(
     moves: &mut [u32],
 ) -> usize
     requires { ⌜ StartsAsk l (now sums) (now best) (now next) (now queue) (now moves) ⌝ }
-    ensures { λ r. ⌜ Starts l (wordsOf (now (sums .entry))) (now (moves .entry)) r (now (best .exit)) (now (next .exit)) (now (moves .exit)) ⌝ }
+    ensures { λ r. ⌜ Starts l (now (sums .entry)) (now (moves .entry)) r (now (best .exit)) (now (next .exit)) (now (moves .exit)) ⌝ }
 {
     let n = queue.len();
     best[n] = 0;
@@ -88,17 +83,20 @@ fn starts(
         end: 0,
         candidate: n + 1,
         moves: 0,
+        cost: NONE,
     };
     let mut i = n;
     while 0 < i {
         let count = q.moves;
-        let at = at_start(l, i, sums, best, queue, q, &mut moves[count..]);
-        settle(l, i, sums, queue, at, best, next);
+        let p = measure_from(l, sums[i - 1]);
+        let at = at_start(l, i, p, sums, best, queue, q, &mut moves[count..]);
+        settle(i, p, sums, queue, at, best, next);
         q = Queue {
             front: at.front,
             end: at.end,
             candidate: at.candidate,
             moves: count + at.moves,
+            cost: at.cost,
         };
         i -= 1;
     }
@@ -116,7 +114,9 @@ fn fill(
     moves: &mut [u32],
 ) -> usize
     requires { ⌜ FillAsks l (now lengths) (now sums) (now best) (now next) (now queue) (now moves) ⌝ }
-    ensures { λ r. ⌜ Filled l (now (lengths .entry)) (now (sums .entry)) (now (best .entry)) (now (next .entry)) (now (queue .entry)) (now (moves .entry)) r (now (sums .exit)) (now (best .exit)) (now (next .exit)) (now (queue .exit)) (now (moves .exit)) ⌝ }
+    ensures { λ r. ⌜ Filled l (now (lengths .entry))
+        (now (sums .entry)) (now (best .entry)) (now (next .entry)) (now (queue .entry)) (now (moves .entry)) r
+        (now (sums .exit)) (now (best .exit)) (now (next .exit)) (now (queue .exit)) (now (moves .exit)) ⌝ }
 {
     let n = lengths.len();
     fill_sums(lengths, sums);
@@ -143,8 +143,11 @@ pub fn set(
     moves: &mut [u32],
     breaks: &mut [u32],
 ) -> Answer
-    requires { ⌜ SetAsks l (now lengths) (paragraphStrips (now sums) (now best) (now next) (now queue) (now moves) (now breaks)) ⌝ }
-    ensures { λ r. ⌜ Sets (paragraphSet l (now (lengths .entry)) (paragraphStrips (now (sums .entry)) (now (best .entry)) (now (next .entry)) (now (queue .entry)) (now (moves .entry)) (now (breaks .entry))) (bestOf l (now (lengths .entry)) 1)) r (paragraphStrips (now (sums .exit)) (now (best .exit)) (now (next .exit)) (now (queue .exit)) (now (moves .exit)) (now (breaks .exit))) ⌝ }
+    requires { ⌜ SetAsks l (now lengths)
+        (paragraphStrips (now sums) (now best) (now next) (now queue) (now moves) (now breaks)) ⌝ }
+    ensures { λ r. ⌜ IsSet l (now (lengths .entry))
+        (paragraphStrips (now (sums .entry)) (now (best .entry)) (now (next .entry)) (now (queue .entry)) (now (moves .entry)) (now (breaks .entry)))
+        r (paragraphStrips (now (sums .exit)) (now (best .exit)) (now (next .exit)) (now (queue .exit)) (now (moves .exit)) (now (breaks .exit))) ⌝ }
 {
     let taken = fill(l, lengths, sums, best, next, queue, moves);
     let total = best[0];

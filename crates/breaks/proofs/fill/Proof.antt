@@ -9,22 +9,45 @@ use Rattle.breaks.proofs.fill.Statement.{statement}
 use Rattle.breaks.proofs.fill.Tie as tie
 
 slice-aggregate-starts : tie.Need-slice-aggregate-starts
-slice-aggregate-starts c = sym (length-take-le _ (c .before .before .before .fill-sums .last .1 .0) (omega (arith, c .before .before .before .before .before .before .before .before .before .before .before .pre .sums, c .before .before .before .fill-sums .kept)))
+slice-aggregate-starts c =
+    let pre = c .before .before .before .before .before .before .before .before .before .before .before .pre in
+    let fill-sums = c .before .before .before .fill-sums in
+    sym (length-take-le _ (fill-sums .last .1 .0) (omega (arith, pre .sums, fill-sums .kept)))
 
 slice-aggregate-starts-2 : tie.Need-slice-aggregate-starts-2
-slice-aggregate-starts-2 c = sym (length-take-le _ (now (c .before .before .before .before .before .before .before .before .before .before .before .before .args .best)) (c .before .before .before .before .before .before .before .before .before .before .before .before .pre .best))
+slice-aggregate-starts-2 c =
+    let args = c .before .before .before .before .before .before .before .before .before .before .before .before .args in
+    let pre = c .before .before .before .before .before .before .before .before .before .before .before .before .pre in
+    sym (length-take-le _ (now (args .best)) (pre .best))
 
 slice-aggregate-starts-3 : tie.Need-slice-aggregate-starts-3
-slice-aggregate-starts-3 c = sym (length-take-le _ (now (c .before .before .before .before .before .before .before .before .before .before .before .before .before .args .next)) (c .before .before .before .before .before .before .before .before .before .before .before .before .before .pre .next))
+slice-aggregate-starts-3 c =
+    let args = c .before .before .before .before .before .before .before .before .before .before .before .before .before .args in
+    let pre = c .before .before .before .before .before .before .before .before .before .before .before .before .before .pre in
+    sym (length-take-le _ (now (args .next)) (pre .next))
 
 slice-aggregate-starts-4 : tie.Need-slice-aggregate-starts-4
-slice-aggregate-starts-4 c = sym (length-take-le _ (now (c .before .before .before .before .before .before .before .before .before .before .before .before .before .before .args .queue)) (c .before .before .before .before .before .before .before .before .before .before .before .before .before .before .pre .queue))
+slice-aggregate-starts-4 c =
+    let args = c .before .before .before .before .before .before .before .before .before .before .before .before .before .before .args in
+    let pre = c .before .before .before .before .before .before .before .before .before .before .before .before .before .before .pre in
+    sym (length-take-le _ (now (args .queue)) (pre .queue))
 
 starts-requires : tie.Need-starts-requires
-starts-requires c κs = filling-starts _ _ _ _ _ _ _ (c .before .before .before .before .before .before .before .before .before .before .before .before .before .before .before .pre) _ (c .before .before .before .before .before .before .before .fill-sums .ensures)
+starts-requires c κs =
+    let pre =
+    c .before .before .before .before .before .before .before .before .before .before .before .before .before .before .before .pre in
+    let fill-sums = c .before .before .before .before .before .before .before .fill-sums in
+    filling-starts pre (fill-sums .ensures)
 
 returns : tie.Need-returns
-returns c = filling-done _ _ _ _ _ _ _ (c .before .before .before .before .before .before .before .before .before .before .before .before .before .before .before .before .before .before .before .before .before .before .before .before .before .before .before .before .pre) _ (c .before .before .before .before .before .before .before .before .before .before .before .before .before .before .before .before .before .before .before .before .fill-sums .ensures) _ _ (c .before .before .before .before .before .before .before .before .before .before .before .before .starts .last .1 .1 .1 .1 .0) _ _ (c .before .before .before .before .before .before .before .before .before .before .before .before .starts .ensures) (c .before .before .before .before .before .before .before .before .before .before .before .before .starts .kept .1 .1 .1 .1 .0) _ (c .before .before .clear .ensures)
+returns c =
+    let far = c .before .before .before .before .before .before .before .before .before .before .before .before in
+    let farther = far .before .before .before .before .before .before .before .before .before .before .before .before in
+    let pre = farther .before .before .before .before .pre in
+    let fill-sums = far .before .before .before .before .before .before .before .before .fill-sums in
+    let starts = far .starts in
+    let clear = c .before .before .clear in
+    filling-done pre (fill-sums .ensures) (starts .last .1 .1 .1 .1 .0) (starts .ensures) (starts .kept .1 .1 .1 .1 .0) (clear .ensures)
 
 pub fill-spec : {M : Type 1} → statement M
 fill-spec =

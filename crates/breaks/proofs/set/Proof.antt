@@ -9,13 +9,30 @@ fill-requires : tie.Need-fill-requires
 fill-requires c κs = c .before .before .before .before .before .before .before .before .before .before .before .before .pre .fill
 
 returns : tie.Need-returns
-returns c = setting-none _ _ _ (c .before .before .before .before .before .before .before .before .before .before .before .before .before .before .before .before .before .before .before .before .before .before .before .before .before .pre) _ _ _ _ _ _ (c .before .before .before .before .before .before .before .before .before .before .before .before .fill .ensures) _ refl (c .if1 .taken)
+returns c =
+    let far = c .before .before .before .before .before .before .before .before .before .before .before .before in
+    let pre = far .before .before .before .before .before .before .before .before .before .before .before .before .before .pre in
+    let fill = far .fill in
+    setting-none pre (fill .ensures) refl (c .if1 .taken)
 
 follow-requires : tie.Need-follow-requires
-follow-requires c κs = setting-follow _ _ _ (c .before .before .before .before .before .before .before .before .before .before .before .before .before .before .before .before .before .before .before .before .before .before .before .before .before .before .before .pre) _ _ _ _ _ _ (c .before .before .before .before .before .before .before .before .before .before .before .before .before .before .fill .ensures) _ refl (c .before .before .if1 .left)
+follow-requires c κs =
+    let far = c .before .before .before .before .before .before .before .before .before .before .before .before in
+    let pre =
+    far .before .before .before .before .before .before .before .before .before .before .before .before .before .before .before .pre in
+    let fill = far .before .before .fill in
+    let if1 = c .before .before .if1 in
+    setting-follow pre (fill .ensures) refl (if1 .left)
 
 returns-2 : tie.Need-returns-2
-returns-2 c = setting-set _ _ _ (c .before .before .before .before .before .before .before .before .before .before .before .before .before .before .before .before .before .before .before .before .before .before .before .before .before .before .before .before .before .before .pre) _ _ _ _ _ _ (c .before .before .before .before .before .before .before .before .before .before .before .before .before .before .before .before .before .fill .ensures) _ refl (c .before .before .before .before .before .if1 .left) _ _ (c .before .before .follow .ensures)
+returns-2 c =
+    let far = c .before .before .before .before .before .before .before .before .before .before .before .before in
+    let farther = far .before .before .before .before .before .before .before .before .before .before .before .before in
+    let pre = farther .before .before .before .before .before .before .pre in
+    let fill = far .before .before .before .before .before .fill in
+    let if1 = c .before .before .before .before .before .if1 in
+    let follow = c .before .before .follow in
+    setting-set pre (fill .ensures) refl (if1 .left) (follow .ensures)
 
 pub set-spec : {M : Type 1} → statement M
 set-spec =
