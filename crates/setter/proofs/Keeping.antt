@@ -20,7 +20,7 @@ use Rattle.paper_theory.specs.Ranges.{Ranges, ranges}
 use Rattle.paper.specs.Paragraph.{best, penalty}
 use Rattle.paper.specs.Told.{told, toldPenalty, checked, penaltyAlone}
 use Rattle.paper.specs.Strips.{ParagraphStrips, paragraphHas, paragraphNeeds, paragraphChecked, paragraphSet, paragraphOutcome, IndexStrips, IndexOutcome, indexHas, indexNeeds, indexChecked, indexOutcome}
-use Rattle.refusals.specs.Accepted.{accepted, room-here}
+use Rattle.refusals.specs.Accepted.{accepted}
 use Rattle.breaks.specs.Asks.{SetAsks, Sets}
 use Rattle.pages.specs.Asks.{PageAsk, Paged}
 use Rattle.setter.specs.Promise.{ParagraphPromise, IndexPromise, PenaltyPromise}
@@ -35,15 +35,17 @@ module _ (l : Limits) (ws : List ℕ) (s : ParagraphStrips) (hold : Bool) (h : h
     pub paragraph-passes : SetAsks l ws s
     paragraph-passes =
         let a = accepted hold ws (paragraphHas s) (paragraphNeeds (length ws)) (sym e) in
-        let r1 = room-here _ _ _ _ 1 (omega arith) (a .room) in
-        let r2 = room-here _ _ _ _ 2 (omega arith) (r1 .1) in
-        let r3 = room-here _ _ _ _ 3 (omega arith) (r2 .1) in
-        let r4 = room-here _ _ _ _ 4 (omega arith) (r3 .1) in
-        let r5 = room-here _ _ _ _ 5 (omega arith) (r4 .1) in
-        let r6 = room-here _ _ _ _ 6 (omega arith) (r5 .1) in
+        let room = a .room in
         record {
-          fill = record { passed = rw h at (a .passed); sums = r1 .0; best = r2 .0; next = r3 .0; queue = r4 .0; moves = r5 .0 };
-          breaks = r6 .0;
+          fill = record {
+            passed = rw h at (a .passed);
+            sums = omega arith;
+            best = omega arith;
+            next = omega arith;
+            queue = omega arith;
+            moves = omega arith;
+          };
+          breaks = omega arith;
         }
 
     pub paragraph-kept : (r : Answer) (t : ParagraphStrips) → Sets (paragraphSet l ws s (best l ws 1)) r t → ParagraphPromise (paragraphOutcome l ws s) r t
@@ -60,16 +62,18 @@ module _ (l : PageLimits) (ws : List ℕ) (s : IndexStrips) (hold : Bool) (h : h
     pub index-passes : PageAsk l ws s
     index-passes =
         let a = accepted hold ws (indexHas s) (indexNeeds (length ws)) (sym e) in
-        let r1 = room-here _ _ _ _ 1 (omega arith) (a .room) in
-        let r2 = room-here _ _ _ _ 2 (omega arith) (r1 .1) in
-        let r3 = room-here _ _ _ _ 3 (omega arith) (r2 .1) in
-        let r4 = room-here _ _ _ _ 4 (omega arith) (r3 .1) in
-        let r5 = room-here _ _ _ _ 5 (omega arith) (r4 .1) in
-        let r6 = room-here _ _ _ _ 6 (omega arith) (r5 .1) in
-        let r7 = room-here _ _ _ _ 7 (omega arith) (r6 .1) in
+        let room = a .room in
         record {
-          fill = record { passed = rw h at (a .passed); sums = r1 .0; best = r2 .0; next = r3 .0; left = r4 .0; right = r5 .0; moves = r6 .0 };
-          boundaries = r7 .0;
+          fill = record {
+            passed = rw h at (a .passed);
+            sums = omega arith;
+            best = omega arith;
+            next = omega arith;
+            left = omega arith;
+            right = omega arith;
+            moves = omega arith;
+          };
+          boundaries = omega arith;
         }
 
     pub index-kept : (r : Answer) (t : IndexStrips) → Paged l ws s r t → IndexPromise (indexOutcome l ws s) r t
