@@ -7,14 +7,12 @@ use lib.ListN.{replicate}
 use Rattle.laws.specs.Square.{sqd}
 use Rattle.laws.specs.Setting.{total}
 use Rattle.laws.specs.Table as Table
-use Rattle.paper.specs.declared.Limits.{Limits}
-use Rattle.paper.specs.declared.PageLimits.{PageLimits}
-use Rattle.paper.specs.declared.Refusal.the-variants.{Empty, Many, Limits as BadLimits, Length}
+use Rattle.paper.specs.declared.Refusal.the-variants.{Empty, Many, Limits as BadLimits, Length, Room}
 use Rattle.paper.specs.Paragraph as Paragraph
 use Rattle.paper.specs.Paragraph.{sum, line, admissible, penalty, charge, paragraph}
 use Rattle.paper.specs.Index as Index
 use Rattle.paper.specs.Index.{gap, page, item, index}
-use Rattle.paper.specs.Allowed.{lengthHolds, limitsHold, pageLimitsHold}
+use Rattle.paper.specs.Allowed.{limitsOf as limits, pageLimitsOf as pages, lengthHolds, limitsHold, pageLimitsHold}
 use Rattle.paper.specs.declared.Checked.{Checked}
 use Rattle.paper.specs.declared.Checked.the-variants.{Accept, Refuse}
 use Rattle.paper.specs.Told.{checked, firstFailing, firstShort}
@@ -24,20 +22,16 @@ use Rattle.paper.specs.QueueRules.{textOf, F, edge, chord, dropLong, pop
 use Rattle.paper.specs.PointerRules as PointerRules
 use Rattle.paper.specs.PointerRules.{pagesOf, steps, jumps, links, pointed, linked, pointerMoves}
 
-abbrev limits : ℕ → ℕ → ℕ → ℕ → Limits
-limits lmin lopt lmax a = record { lmin = lmin; lopt = lopt; lmax = lmax; a = a }
-
-abbrev pages : ℕ → ℕ → PageLimits
-pages lmin lmax = record { lmin = lmin; lmax = lmax }
-
 -- ---- limits: what each set of them is said to be
 pub limit-edges : map limitsHold (
-    limits 1 6 4095 1 ∷ limits 1 6 4096 1 ∷ limits 1 6 6 0 ∷ limits 1 6 6 16 ∷ limits 1 6 6 15 ∷ limits 6 6 6 1 ∷ limits 0 6 6 1 ∷ limits 3 2 6 1 ∷ limits 3 7 6 1 ∷ [])
+    limits 1 6 4095 1 ∷ limits 1 6 4096 1 ∷ limits 1 6 6 0 ∷ limits 1 6 6 16 ∷ limits 1 6 6 15
+    ∷ limits 6 6 6 1 ∷ limits 0 6 6 1 ∷ limits 3 2 6 1 ∷ limits 3 7 6 1 ∷ [])
     ≡ true ∷ false ∷ false ∷ false ∷ true ∷ false ∷ false ∷ false ∷ false ∷ []
 unfolding limitsHold
 limit-edges = refl
 
-pub page-limit-edges : map pageLimitsHold (pages 0 65535 ∷ pages 0 65536 ∷ pages 7 7 ∷ pages 6 7 ∷ pages 8 7 ∷ []) ≡ true ∷ false ∷ false ∷ true ∷ false ∷ []
+pub page-limit-edges : map pageLimitsHold (pages 0 65535 ∷ pages 0 65536 ∷ pages 7 7 ∷ pages 6 7 ∷ pages 8 7 ∷ [])
+    ≡ true ∷ false ∷ false ∷ true ∷ false ∷ []
 unfolding pageLimitsHold
 page-limit-edges = refl
 
@@ -55,6 +49,12 @@ pub refusal-order : map (λ (ws : List ℕ). checked false ws [] []) ([] ∷ rep
     ≡ Refuse Empty ∷ Refuse Many ∷ Refuse BadLimits ∷ []
 unfolding checked firstFailing firstShort lengthHolds
 refusal-order = refl
+
+-- LENGTH comes before ROOM, which tells the first strip that is too short.
+pub room-edges : map (λ (ws : List ℕ). checked true ws (2 ∷ 1 ∷ 0 ∷ []) (2 ∷ 2 ∷ 2 ∷ [])) ((0 ∷ []) ∷ (3 ∷ []) ∷ [])
+    ≡ Refuse (Length 1) ∷ Refuse (Room 2) ∷ []
+unfolding checked firstFailing firstShort lengthHolds
+room-edges = refl
 
 -- ---- the worked moves: "P1's moves are 41 43 33 25 35 28 17; G1's are 39 37 30."
 pub moves-P1 : map code (queueMoves (limits 1 6 6 1) (3 ∷ 2 ∷ 2 ∷ 5 ∷ [])) ≡ 41 ∷ 43 ∷ 33 ∷ 25 ∷ 35 ∷ 28 ∷ 17 ∷ []
