@@ -46,7 +46,7 @@ module _ {l : Limits} {ws : List ℕ} {s : ParagraphStrips} {S B N Q m : List �
     unfolding paragraphSet
     setting-none h =
         rw (entry-none (best l ws 1) x (e ∙ first-best) number h)
-        (record { answered = ap None (f .counted); left = written-strips [] (s .breaks) (sym (over-nil (s .breaks))) })
+        (record { tells = ap None (f .counted); strips = written-strips [] (s .breaks) (sym (over-nil (s .breaks))) })
 
     -- ---- the breaks
     module _ (h : x ≡ 2 ^ 64 - 1 → ⊥) where
@@ -83,6 +83,6 @@ module _ {l : Limits} {ws : List ℕ} {s : ParagraphStrips} {S B N Q m : List �
           let is : chain N 1 n 1 ≡ breaks l ws = chain-all N 1 n (chosenNext l ws) held 1 leads (omega (arith, a .fill .passed .words)) in
           rw total
           (record {
-            answered = rw (followed .counted, is, f .counted);
-            left = written-strips (breaks l ws) b (followed .is ∙ ap (λ (c : List ℕ). over c (s .breaks)) is);
+            tells = rw (followed .counted, is, f .counted);
+            strips = written-strips (breaks l ws) b (followed .is ∙ ap (λ (c : List ℕ). over c (s .breaks)) is);
           })

@@ -6,15 +6,16 @@ use mathlib.Core.List.{List, map}
 use lib.Dec.{leb}
 use lib.ListN.{length, getD, set, replicate}
 use Rattle.laws.specs.Number.{if}
+use Rattle.laws.specs.Outcome.{Promise, Is}
 use Rattle.laws.specs.Part.{listed}
 use Rattle.laws.specs.Strip.{over}
 use Rattle.paper.specs.declared.Limits.{Limits}
 use Rattle.paper.specs.declared.Answer.{Answer}
-use Rattle.paper.specs.Allowed.{limitsHold, Passed}
+use Rattle.paper.specs.Allowed.{limitsHold, ParagraphPassed}
 use Rattle.paper.specs.Moves.{code}
 use Rattle.paper.specs.Paragraph as Paragraph
 use Rattle.paper.specs.QueueRules.{frontNext, queueMoves}
-use Rattle.paper.specs.Strips.{entries, sums, bestEntry, ParagraphStrips, ParagraphOutcome, paragraphSet}
+use Rattle.paper.specs.Strips.{entries, sums, bestEntry, ParagraphStrips, paragraphSet}
 use Rattle.strips.specs.Filling.{ended}
 use Rattle.strips.specs.Words.{wordsOf, Holds}
 use Rattle.queue.specs.declared.Queue.{Queue}
@@ -76,7 +77,7 @@ Starts l S m₀ count B N m = SetStarts l (wordsOf S) m₀ count B N m
 -- ---- the strips, which may be longer
 -- words that refusals 1 to 5 pass, but for the room of the breaks
 pub record FillAsks (l : Limits) (ws S B N Q m : List ℕ) : Type 0 where
-  pub passed : Passed (limitsHold l) ws
+  pub passed : ParagraphPassed l ws
   pub sums : length ws + 1 ≤ length S
   pub best : length ws + 1 ≤ length B
   pub next : length ws + 1 ≤ length N
@@ -98,9 +99,5 @@ pub record SetAsks (l : Limits) (ws : List ℕ) (s : ParagraphStrips) : Type 0 w
   pub breaks : length ws ≤ length (s .breaks)
 
 -- the answer and the strips are those of the outcome
-pub record Sets (o : ParagraphOutcome) (answer : Answer) (exit : ParagraphStrips) : Type 0 where
-  pub answered : answer ≡ o .answer
-  pub left : exit ≡ o .strips
-
 abbrev pub IsSet : Limits → List ℕ → ParagraphStrips → Answer → ParagraphStrips → Type 0
-IsSet l ws s answer exit = Sets (paragraphSet l ws s (Paragraph.best l ws 1)) answer exit
+IsSet l ws s answer exit = Promise Is (paragraphSet l ws s (Paragraph.best l ws 1)) answer exit

@@ -12,12 +12,13 @@ use refusals::told_refusal;
 use setter::penalty_alone;
 use setter::set_index;
 use setter::set_paragraph;
+ghost use mathlib.Core.Path.{_≡_};
 ghost use Rattle.paper.specs.Strips.{paragraphStrips, paragraphOutcome, indexStrips, indexOutcome};
 ghost use Rattle.paper.specs.Told.{told, toldRefusal, toldPenalty, penaltyAlone};
 ghost use Rattle.job.specs.Reader.{readOutcome};
 ghost use Rattle.job.specs.Promise.{toldJob};
 ghost use Rattle.job.specs.declared.Job.the-variants.{Read};
-ghost use Rattle.capi.specs.Promise.{Tells, TellsJob, ParagraphPromise, IndexPromise, JobPromise};
+ghost use Rattle.capi.specs.Promise.{inNumbers, inJobNumbers, NumbersPromise, JobNumbersPromise};
 
 // 01's number (0 where something is set), place, total, lines and moves.
 #[repr(C)]
@@ -43,7 +44,7 @@ pub struct JobNumbers {
 }
 
 fn tell_refusal(r: Refusal) -> Numbers
-    ensures { λ t. ⌜ Tells (toldRefusal r) t ⌝ }
+    ensures { λ t. ⌜ t ≡ inNumbers (toldRefusal r) ⌝ }
 {
     let t = told_refusal(r);
     Numbers {
@@ -56,7 +57,7 @@ fn tell_refusal(r: Refusal) -> Numbers
 }
 
 fn tell(a: Answer) -> Numbers
-    ensures { λ t. ⌜ Tells (told a) t ⌝ }
+    ensures { λ t. ⌜ t ≡ inNumbers (told a) ⌝ }
 {
     match a {
         Answer::Set {
@@ -82,7 +83,7 @@ fn tell(a: Answer) -> Numbers
 }
 
 fn tell_penalty(p: Penalty) -> Numbers
-    ensures { λ t. ⌜ Tells (toldPenalty p) t ⌝ }
+    ensures { λ t. ⌜ t ≡ inNumbers (toldPenalty p) ⌝ }
 {
     match p {
         Penalty::Of(penalty) => Numbers {
@@ -97,7 +98,7 @@ fn tell_penalty(p: Penalty) -> Numbers
 }
 
 fn tell_job(j: Job) -> JobNumbers
-    ensures { λ t. ⌜ TellsJob (toldJob j) t ⌝ }
+    ensures { λ t. ⌜ t ≡ inJobNumbers (toldJob j) ⌝ }
 {
     match j {
         Job::Read(asked, n) => tell_asked(asked, n),
@@ -118,7 +119,7 @@ fn tell_job(j: Job) -> JobNumbers
 }
 
 fn tell_asked(asked: Asked, n: usize) -> JobNumbers
-    ensures { λ t. ⌜ TellsJob (toldJob (Read asked n)) t ⌝ }
+    ensures { λ t. ⌜ t ≡ inJobNumbers (toldJob (Read asked n)) ⌝ }
 {
     match asked {
         Asked::Paragraph(l) => JobNumbers {
@@ -155,7 +156,11 @@ pub extern "C" fn hathurmo_set_paragraph(
     moves: &mut [u32],
     breaks: &mut [u32],
 ) -> Numbers
-    ensures { λ r. ⌜ ParagraphPromise (paragraphOutcome limits (now (lengths .entry)) (paragraphStrips (now (sums .entry)) (now (best .entry)) (now (next .entry)) (now (queue .entry)) (now (moves .entry)) (now (breaks .entry)))) r (paragraphStrips (now (sums .exit)) (now (best .exit)) (now (next .exit)) (now (queue .exit)) (now (moves .exit)) (now (breaks .exit))) ⌝ }
+    ensures { λ r. ⌜ NumbersPromise
+        (paragraphOutcome limits (now (lengths .entry)) (paragraphStrips (now (sums .entry)) (now (best .entry)) (now (next .entry))
+        (now (queue .entry)) (now (moves .entry)) (now (breaks .entry))))
+        r (paragraphStrips (now (sums .exit)) (now (best .exit)) (now (next .exit))
+        (now (queue .exit)) (now (moves .exit)) (now (breaks .exit))) ⌝ }
 {
     tell(set_paragraph(limits, lengths, sums, best, next, queue, moves, breaks))
 }
@@ -172,7 +177,11 @@ pub extern "C" fn hathurmo_set_index(
     moves: &mut [u32],
     boundaries: &mut [u32],
 ) -> Numbers
-    ensures { λ r. ⌜ IndexPromise (indexOutcome limits (now (lengths .entry)) (indexStrips (now (sums .entry)) (now (best .entry)) (now (next .entry)) (now (left .entry)) (now (right .entry)) (now (moves .entry)) (now (boundaries .entry)))) r (indexStrips (now (sums .exit)) (now (best .exit)) (now (next .exit)) (now (left .exit)) (now (right .exit)) (now (moves .exit)) (now (boundaries .exit))) ⌝ }
+    ensures { λ r. ⌜ NumbersPromise
+        (indexOutcome limits (now (lengths .entry)) (indexStrips (now (sums .entry)) (now (best .entry)) (now (next .entry))
+        (now (left .entry)) (now (right .entry)) (now (moves .entry)) (now (boundaries .entry))))
+        r (indexStrips (now (sums .exit)) (now (best .exit)) (now (next .exit))
+        (now (left .exit)) (now (right .exit)) (now (moves .exit)) (now (boundaries .exit))) ⌝ }
 {
     tell(set_index(
         limits,
@@ -189,14 +198,14 @@ pub extern "C" fn hathurmo_set_index(
 
 #[no_mangle]
 pub extern "C" fn hathurmo_penalty(limits: Limits, length: u32) -> Numbers
-    ensures { λ r. ⌜ Tells (toldPenalty (penaltyAlone limits length)) r ⌝ }
+    ensures { λ r. ⌜ r ≡ inNumbers (toldPenalty (penaltyAlone limits length)) ⌝ }
 {
     tell_penalty(penalty_alone(limits, length))
 }
 
 #[no_mangle]
 pub extern "C" fn hathurmo_read_job(job: &[u8], lengths: &mut [u32]) -> JobNumbers
-    ensures { λ r. ⌜ JobPromise (readOutcome (now (job .entry)) (now (lengths .entry))) r (now (lengths .exit)) ⌝ }
+    ensures { λ r. ⌜ JobNumbersPromise (readOutcome (now (job .entry)) (now (lengths .entry))) r (now (lengths .exit)) ⌝ }
 {
     tell_job(read(job, lengths))
 }

@@ -1,5 +1,5 @@
 -- What a call gives, and what it is to promise it. Assumes nothing.
-use mathlib.Core.Path.{_≡_, sym, _∙_}
+use mathlib.Core.Path.{_≡_, ap, sym, _∙_}
 
 -- the answer, and the strips at exit: a function of the inputs and the strips at entry
 pub record Outcome (A S : Type 0) : Type 0 where
@@ -26,3 +26,21 @@ Is a r = r ≡ a
 
 pub is-single : {A : Type 0} → Single (Is {A = A})
 is-single a r q e f = e ∙ sym f
+
+-- f of the answer is returned
+abbrev pub As : {A R : Type 0} → (A → R) → A → R → Type 0
+As f a r = r ≡ f a
+
+pub as-single : {A R : Type 0} (f : A → R) → Single (As f)
+as-single f a r q e u = e ∙ sym u
+
+-- the answer itself is returned, and so what it tells
+pub record Answers {A T : Type 0} (told : A → T) (a r : A) : Type 0 where
+  pub is : r ≡ a
+  pub tells : told r ≡ told a
+
+pub answers : {A T : Type 0} {told : A → T} {a r : A} → r ≡ a → Answers told a r
+answers {told = told} e = record { is = e; tells = ap told e }
+
+pub answers-single : {A T : Type 0} {told : A → T} → Single (Answers told)
+answers-single a r q p u = p .is ∙ sym (u .is)

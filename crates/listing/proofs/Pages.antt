@@ -107,14 +107,14 @@ module _ (l : PageLimits) (ws : List ℕ) (s : IndexStrips) where
           Promise (outcome (refused (r .number) (r .place)) o) x u → Promise (outcome (indexListing l ws) o) x u
       unfolding indexListing
       pages-unset u r tells o q =
-          rw (unset-checked (checked (pageLimitsHold l) ws [] []) a (p .answered ∙ ap (λ (o : IndexOutcome). o .answer) outcome-is) u, ← tells .is-number, ← tells .is-place) q
+          rw (unset-checked (checked (pageLimitsHold l) ws [] []) a (p .tells .is ∙ ap (λ (o : IndexOutcome). o .answer) outcome-is) u, ← tells .is-number, ← tells .is-place) q
 
       module _ (total lines moves : ℕ) (e : a ≡ Set total lines moves) where
         given : IndexGiven l ws s total lines moves t
         unfolding indexListing
         given =
             given-checked total lines moves t (checked (pageLimitsHold l) ws [] []) refl
-            (sym e ∙ p .answered ∙ ap (λ (o : IndexOutcome). o .answer) outcome-is)
+            (sym e ∙ p .tells .is ∙ ap (λ (o : IndexOutcome). o .answer) outcome-is)
             (p .strips ∙ ap (λ (o : IndexOutcome). o .strips) outcome-is)
             refl
 

@@ -130,12 +130,12 @@ module _ (l : Limits) (ws : List ℕ) (s : ParagraphStrips) where
     module _ (a : Answer) (t : ParagraphStrips) (p : ParagraphPromise (paragraphOutcome l ws s) a t) where
       pub paragraph-unset : Unset a → paragraphListing l ws ≡ refused (told a .number) (told a .place)
       unfolding paragraphListing
-      paragraph-unset u = unset-checked (checked (limitsHold l) ws [] []) a (p .answered ∙ ap (λ (o : ParagraphOutcome). o .answer) outcome-is) u
+      paragraph-unset u = unset-checked (checked (limitsHold l) ws [] []) a (p .tells .is ∙ ap (λ (o : ParagraphOutcome). o .answer) outcome-is) u
 
       pub paragraph-given : (total lines moves : ℕ) → a ≡ Set total lines moves → ParagraphGiven l ws s total lines moves t
       unfolding paragraphListing
       paragraph-given total lines moves e =
           given-checked total lines moves t (checked (limitsHold l) ws [] []) refl
-          (sym e ∙ p .answered ∙ ap (λ (o : ParagraphOutcome). o .answer) outcome-is)
+          (sym e ∙ p .tells .is ∙ ap (λ (o : ParagraphOutcome). o .answer) outcome-is)
           (p .strips ∙ ap (λ (o : ParagraphOutcome). o .strips) outcome-is)
           refl

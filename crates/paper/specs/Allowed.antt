@@ -8,6 +8,13 @@ use Rattle.laws.specs.Number.{all}
 use Rattle.paper.specs.declared.Limits.{Limits}
 use Rattle.paper.specs.declared.PageLimits.{PageLimits}
 
+-- "Limits in the order lmin, lopt, lmax, A, or lmin, lmax."
+abbrev pub limitsOf : ℕ → ℕ → ℕ → ℕ → Limits
+limitsOf lmin lopt lmax a = record { lmin = lmin; lopt = lopt; lmax = lmax; a = a }
+
+abbrev pub pageLimitsOf : ℕ → ℕ → PageLimits
+pageLimitsOf lmin lmax = record { lmin = lmin; lmax = lmax }
+
 -- "n: 1 to 4,096."
 abbrev pub mostWords : ℕ
 mostWords = 4096
@@ -30,9 +37,16 @@ pageLimitsHold l = ltb (l .lmin) (l .lmax) && leb (l .lmax) 65535
 abbrev pub mostAlone : ℕ
 mostAlone = 16773120
 
--- a list that refusals 1 to 5 pass, where the limits hold
+-- a list that refusals 1 to 4 pass, where the limits hold
 pub record Passed (hold : Bool) (ws : List ℕ) : Type 0 where
   pub limits : T hold
   pub words : 1 ≤ length ws
   pub few : length ws ≤ mostWords
   pub lengths : T (all lengthHolds ws)
+
+-- a paragraph, and an index
+abbrev pub ParagraphPassed : Limits → List ℕ → Type 0
+ParagraphPassed l ws = Passed (limitsHold l) ws
+
+abbrev pub IndexPassed : PageLimits → List ℕ → Type 0
+IndexPassed l ws = Passed (pageLimitsHold l) ws

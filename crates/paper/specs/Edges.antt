@@ -4,42 +4,28 @@ use mathlib.Core.Path.{_≡_, refl}
 use mathlib.Core.Bool.{true, false}
 use mathlib.Core.List.{List, [], _∷_, map}
 use lib.ListN.{replicate}
-use Rattle.laws.specs.Square.{sqd}
 use Rattle.laws.specs.Setting.{total}
-use Rattle.laws.specs.Table as Table
-use Rattle.paper.specs.declared.Limits.{Limits}
-use Rattle.paper.specs.declared.PageLimits.{PageLimits}
-use Rattle.paper.specs.declared.Refusal.the-variants.{Empty, Many, Limits as BadLimits, Length}
-use Rattle.paper.specs.Lines as Lines
-use Rattle.paper.specs.Lines.{admissible, charge, settings}
-use Rattle.paper.specs.Paragraph as Paragraph
-use Rattle.paper.specs.Paragraph.{sum, line, penalty, lines, paragraph}
-use Rattle.paper.specs.Index as Index
-use Rattle.paper.specs.Index.{gap, page, item, index}
-use Rattle.paper.specs.Allowed.{lengthHolds, limitsHold, pageLimitsHold}
+use Rattle.paper.specs.declared.Refusal.the-variants.{Empty, Many, Limits as BadLimits, Length, Room}
+use Rattle.paper.specs.Paragraph.{paragraph}
+use Rattle.paper.specs.Allowed.{limitsOf as limits, pageLimitsOf as pages, limitsHold, pageLimitsHold}
 use Rattle.paper.specs.declared.Checked.{Checked}
 use Rattle.paper.specs.declared.Checked.the-variants.{Accept, Refuse}
-use Rattle.paper.specs.Told.{checked, firstFailing, firstShort}
-use Rattle.paper.specs.Moves.{code, kindNumber}
-use Rattle.paper.specs.QueueRules as QueueRules
-use Rattle.paper.specs.QueueRules.{textOf, F, edge, chord, dropLong, popWorse, popBridged, add, consider, candidates, dropWorse, settled, queueMoves}
-use Rattle.paper.specs.PointerRules as PointerRules
-use Rattle.paper.specs.PointerRules.{pagesOf, steps, jumps, links, pointed, linked, pointerMoves}
-
-abbrev limits : ℕ → ℕ → ℕ → ℕ → Limits
-limits lmin lopt lmax a = record { lmin = lmin; lopt = lopt; lmax = lmax; a = a }
-
-abbrev pages : ℕ → ℕ → PageLimits
-pages lmin lmax = record { lmin = lmin; lmax = lmax }
+use Rattle.paper.specs.Told.{checked}
+use Rattle.paper.specs.Moves.{code}
+use Rattle.paper.specs.Computes.{stripsCompute, paragraphComputes, indexComputes}
+use Rattle.paper.specs.QueueRules.{queueMoves}
+use Rattle.paper.specs.PointerRules.{pointerMoves}
 
 -- ---- limits: what each set of them is said to be
 pub limit-edges : map limitsHold (
-    limits 1 6 4095 1 ∷ limits 1 6 4096 1 ∷ limits 1 6 6 0 ∷ limits 1 6 6 16 ∷ limits 1 6 6 15 ∷ limits 6 6 6 1 ∷ limits 0 6 6 1 ∷ limits 3 2 6 1 ∷ limits 3 7 6 1 ∷ [])
+    limits 1 6 4095 1 ∷ limits 1 6 4096 1 ∷ limits 1 6 6 0 ∷ limits 1 6 6 16 ∷ limits 1 6 6 15
+    ∷ limits 6 6 6 1 ∷ limits 0 6 6 1 ∷ limits 3 2 6 1 ∷ limits 3 7 6 1 ∷ [])
     ≡ true ∷ false ∷ false ∷ false ∷ true ∷ false ∷ false ∷ false ∷ false ∷ []
 unfolding limitsHold
 limit-edges = refl
 
-pub page-limit-edges : map pageLimitsHold (pages 0 65535 ∷ pages 0 65536 ∷ pages 7 7 ∷ pages 6 7 ∷ pages 8 7 ∷ []) ≡ true ∷ false ∷ false ∷ true ∷ false ∷ []
+pub page-limit-edges : map pageLimitsHold (pages 0 65535 ∷ pages 0 65536 ∷ pages 7 7 ∷ pages 6 7 ∷ pages 8 7 ∷ [])
+    ≡ true ∷ false ∷ false ∷ true ∷ false ∷ []
 unfolding pageLimitsHold
 page-limit-edges = refl
 
@@ -49,31 +35,36 @@ given ws = checked true ws [] []
 
 pub length-edges : map given ([] ∷ (4095 ∷ []) ∷ (3 ∷ 4096 ∷ 0 ∷ []) ∷ (3 ∷ 2 ∷ 0 ∷ []) ∷ replicate 4096 1 ∷ replicate 4097 1 ∷ [])
     ≡ Refuse Empty ∷ Accept ∷ Refuse (Length 2) ∷ Refuse (Length 3) ∷ Accept ∷ Refuse Many ∷ []
-unfolding checked firstFailing firstShort lengthHolds
+unfolding stripsCompute
 length-edges = refl
 
 -- EMPTY comes before LIMITS, MANY before LIMITS, and LIMITS before LENGTH.
 pub refusal-order : map (λ (ws : List ℕ). checked false ws [] []) ([] ∷ replicate 4097 0 ∷ (0 ∷ []) ∷ [])
     ≡ Refuse Empty ∷ Refuse Many ∷ Refuse BadLimits ∷ []
-unfolding checked firstFailing firstShort lengthHolds
+unfolding stripsCompute
 refusal-order = refl
+
+-- LENGTH comes before ROOM, which tells the first strip that is too short.
+pub room-edges : map (λ (ws : List ℕ). checked true ws (2 ∷ 1 ∷ 0 ∷ []) (2 ∷ 2 ∷ 2 ∷ [])) ((0 ∷ []) ∷ (3 ∷ []) ∷ [])
+    ≡ Refuse (Length 1) ∷ Refuse (Room 2) ∷ []
+unfolding stripsCompute
+room-edges = refl
 
 -- ---- the worked moves: "P1's moves are 41 43 33 25 35 28 17; G1's are 39 37 30."
 pub moves-P1 : map code (queueMoves (limits 1 6 6 1) (3 ∷ 2 ∷ 2 ∷ 5 ∷ [])) ≡ 41 ∷ 43 ∷ 33 ∷ 25 ∷ 35 ∷ 28 ∷ 17 ∷ []
-unfolding sum line penalty lines paragraph sqd admissible charge settings Lines.best Paragraph.best Table.best code kindNumber textOf F edge chord
-    dropLong popWorse popBridged add consider candidates dropWorse settled QueueRules.atStart QueueRules.afterStarts queueMoves
+unfolding paragraphComputes
 moves-P1 = refl
 
 pub moves-G1 : map code (pointerMoves (pages 2 7) (3 ∷ 4 ∷ 2 ∷ 5 ∷ [])) ≡ 39 ∷ 37 ∷ 30 ∷ []
-unfolding sum gap page item index Index.best Table.best code kindNumber pagesOf steps jumps links pointed linked
-    PointerRules.atStart PointerRules.afterStarts pointerMoves
+unfolding indexComputes
 moves-G1 = refl
 
 -- ---- other settings: P3's "1 3 costs the same", and "Filling each line as far as it goes: P1 would cost 17."
-pub other-P3 : total (paragraph (limits 2 4 6 1) (3 ∷ 2 ∷ 2 ∷ [])) 1 (3 ∷ []) ≡ total (paragraph (limits 2 4 6 1) (3 ∷ 2 ∷ 2 ∷ [])) 1 (2 ∷ [])
-unfolding sum line penalty lines paragraph charge settings sqd
+pub other-P3 : total (paragraph (limits 2 4 6 1) (3 ∷ 2 ∷ 2 ∷ [])) 1 (3 ∷ []) ≡ total (paragraph (limits 2 4 6 1) (3 ∷ 2 ∷ 2 ∷ [])) 1
+    (2 ∷ [])
+unfolding paragraphComputes
 other-P3 = refl
 
 pub greedy-P1 : total (paragraph (limits 1 6 6 1) (3 ∷ 2 ∷ 2 ∷ 5 ∷ [])) 1 (3 ∷ 4 ∷ []) ≡ 17
-unfolding sum line penalty lines paragraph charge settings sqd
+unfolding paragraphComputes
 greedy-P1 = refl

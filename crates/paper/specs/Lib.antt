@@ -8,5 +8,6 @@ pub mod Moves
 pub mod QueueRules
 pub mod PointerRules
 pub mod Strips
+pub mod Computes
 pub mod Marked
 pub mod Edges

@@ -5,18 +5,15 @@ use mathlib.Core.Path.{_≡_, refl}
 use mathlib.Core.List.{List, [], _∷_, map}
 use Rattle.laws.specs.Cost.{Cost, none, some}
 use Rattle.laws.specs.Search.{Tie, largest}
-use Rattle.laws.specs.Square.{sqd}
 use Rattle.laws.specs.Setting.{Problem, Best}
-use Rattle.laws.specs.Table as Table
-use Rattle.laws.specs.Chosen.{Follows, next}
-use Rattle.paper.specs.declared.Limits.{Limits}
-use Rattle.paper.specs.declared.PageLimits.{PageLimits}
-use Rattle.paper.specs.Lines as Lines
-use Rattle.paper.specs.Lines.{admissible, charge, free, settings, tie}
+use Rattle.laws.specs.Chosen.{Follows}
+use Rattle.paper.specs.Allowed.{limitsOf as limits, pageLimitsOf as pageLimits}
+use Rattle.paper.specs.Lines.{tie}
 use Rattle.paper.specs.Paragraph as Paragraph
-use Rattle.paper.specs.Paragraph.{sum, line, penalty, lines, paragraph}
+use Rattle.paper.specs.Paragraph.{lines, paragraph}
 use Rattle.paper.specs.Index as Index
-use Rattle.paper.specs.Index.{gap, page, item, index}
+use Rattle.paper.specs.Computes.{paragraphComputes, indexComputes}
+use Rattle.paper.specs.Index.{index}
 
 -- ---- the rows
 -- "Limits in the order lmin, lopt, lmax, A, or lmin, lmax."
@@ -57,12 +54,6 @@ table =
     []
 
 -- ---- what the definitions say of a row
-abbrev pub limits : ℕ → ℕ → ℕ → ℕ → Limits
-limits lmin lopt lmax a = record { lmin = lmin; lopt = lopt; lmax = lmax; a = a }
-
-abbrev pub pageLimits : ℕ → ℕ → PageLimits
-pageLimits lmin lmax = record { lmin = lmin; lmax = lmax }
-
 -- v is the least total over all admissible settings from i, and js are the later starts that the tie rule chooses
 abbrev pub Sets : Problem → (ℕ → Tie) → ℕ → ℕ → List ℕ → Type 0
 Sets p tie i v js = Best p i (some v) × Follows p tie i js
@@ -95,6 +86,5 @@ computed (list lmin lmax) ws = outcomeOf (Index.best (pageLimits lmin lmax) ws 0
 
 -- What is computed for the rows is what the table says.
 pub rows-computed : map (λ (r : Row). computed (r .asked) (r .lengths)) table ≡ map (λ (r : Row). r .outcome) table
-unfolding computed sum line penalty lines paragraph sqd admissible charge free settings Lines.best Lines.chosenNext Lines.breaks
-    Paragraph.best Paragraph.chosenNext Paragraph.breaks Table.best next gap page item index Index.best Index.chosenNext Index.boundaries
+unfolding computed paragraphComputes indexComputes
 rows-computed = refl

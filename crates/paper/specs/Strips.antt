@@ -6,8 +6,10 @@ use lib.ListN.{length, take, replicate}
 use Rattle.laws.specs.Cost.{Cost, none, some, leq}
 use Rattle.laws.specs.Search.{pick, smallest, largest}
 use Rattle.laws.specs.Strip.{over}
+use Rattle.laws.specs.Outcome.{Outcome}
 use Rattle.paper.specs.declared.Limits.{Limits}
 use Rattle.paper.specs.declared.PageLimits.{PageLimits}
+use Rattle.paper.specs.declared.Move.{Move}
 use Rattle.paper.specs.declared.Answer.{Answer}
 use Rattle.paper.specs.declared.Answer.the-variants.{Set, None, Refused}
 use Rattle.paper.specs.Paragraph as Paragraph
@@ -15,8 +17,7 @@ use Rattle.paper.specs.Paragraph.{sum}
 use Rattle.paper.specs.Index as Index
 use Rattle.paper.specs.Allowed.{limitsHold, pageLimitsHold}
 use Rattle.paper.specs.declared.Checked.{Checked}
-use Rattle.paper.specs.declared.Checked.the-variants.{Accept, Refuse}
-use Rattle.paper.specs.Told.{checked}
+use Rattle.paper.specs.Told.{unless, checked}
 use Rattle.paper.specs.Moves.{code}
 use Rattle.paper.specs.QueueRules.{queueMoves}
 use Rattle.paper.specs.PointerRules.{pointerMoves}
@@ -44,6 +45,17 @@ leftEntry best j = pick largest (λ k. not (leq (best j) (best k))) 1 (j - 1)
 unfoldable pub rightEntry : (ℕ → Cost) → ℕ → ℕ → ℕ
 rightEntry best n j = pick smallest (λ k. leq (best k) (best j)) (j + 1) (n + 1 - j)
 
+-- ---- what a call gives: the answer, and every strip at exit
+-- "NONE writes every strip as said above but breaks or boundaries, which stay unchanged; it returns the count of moves": the strips as
+-- written with the breaks or boundaries that are found, or with none of them
+abbrev pub setOrNone : {S : Type 0} → (List ℕ → S) → List ℕ → List Move → Cost → Outcome Answer S
+setOrNone written list moves none = record { answer = None (length moves); strips = written [] }
+setOrNone written list moves (some total) = record { answer = Set total (length list) (length moves); strips = written list }
+
+-- "Refusals 1 to 5 change no strip"
+abbrev pub refusedOr : {S : Type 0} → S → Checked → Outcome Answer S → Outcome Answer S
+refusedOr s = unless (λ r. record { answer = Refused r; strips = s })
+
 -- ---- the paragraph
 -- "Paragraph, in order: sums (n+1 entries), best (n+1), next (n+1), queue (n), moves (2n), breaks (n)."
 pub record ParagraphStrips : Type 0 where
@@ -54,11 +66,16 @@ pub record ParagraphStrips : Type 0 where
   pub moves : List ℕ
   pub breaks : List ℕ
 
+abbrev pub ParagraphOutcome : Type 0
+ParagraphOutcome = Outcome Answer ParagraphStrips
+
 abbrev pub paragraphStrips : List ℕ → List ℕ → List ℕ → List ℕ → List ℕ → List ℕ → ParagraphStrips
-paragraphStrips sums best next queue moves breaks = record { sums = sums; best = best; next = next; queue = queue; moves = moves; breaks = breaks }
+paragraphStrips sums best next queue moves breaks =
+    record { sums = sums; best = best; next = next; queue = queue; moves = moves; breaks = breaks }
 
 abbrev pub paragraphHas : ParagraphStrips → List ℕ
-paragraphHas s = length (s .sums) ∷ length (s .best) ∷ length (s .next) ∷ length (s .queue) ∷ length (s .moves) ∷ length (s .breaks) ∷ []
+paragraphHas s =
+    length (s .sums) ∷ length (s .best) ∷ length (s .next) ∷ length (s .queue) ∷ length (s .moves) ∷ length (s .breaks) ∷ []
 
 abbrev pub paragraphNeeds : ℕ → List ℕ
 paragraphNeeds n = (n + 1) ∷ (n + 1) ∷ (n + 1) ∷ n ∷ (2 * n) ∷ n ∷ []
@@ -75,23 +92,11 @@ paragraphWritten l ws s breaks = record {
   breaks = over breaks (s .breaks);
 }
 
--- the answer, and every strip at exit
-pub record ParagraphOutcome : Type 0 where
-  pub answer : Answer
-  pub strips : ParagraphStrips
-
--- "NONE writes every strip as said above but breaks or boundaries, which stay unchanged; it returns the count of moves"
 unfoldable pub paragraphSet : Limits → List ℕ → ParagraphStrips → Cost → ParagraphOutcome
-paragraphSet l ws s none = record { answer = None (length (queueMoves l ws)); strips = paragraphWritten l ws s [] }
-paragraphSet l ws s (some v) = record {
-  answer = Set v (length (Paragraph.breaks l ws)) (length (queueMoves l ws));
-  strips = paragraphWritten l ws s (Paragraph.breaks l ws);
-}
+paragraphSet l ws s best = setOrNone (paragraphWritten l ws s) (Paragraph.breaks l ws) (queueMoves l ws) best
 
--- "Refusals 1 to 5 change no strip"
 unfoldable pub paragraphChecked : Limits → List ℕ → ParagraphStrips → Checked → ParagraphOutcome
-paragraphChecked l ws s (Refuse r) = record { answer = Refused r; strips = s }
-paragraphChecked l ws s Accept = paragraphSet l ws s (Paragraph.best l ws 1)
+paragraphChecked l ws s c = refusedOr s c (paragraphSet l ws s (Paragraph.best l ws 1))
 
 unfoldable pub paragraphOutcome : Limits → List ℕ → ParagraphStrips → ParagraphOutcome
 paragraphOutcome l ws s = paragraphChecked l ws s (checked (limitsHold l) ws (paragraphHas s) (paragraphNeeds (length ws)))
@@ -107,13 +112,17 @@ pub record IndexStrips : Type 0 where
   pub moves : List ℕ
   pub boundaries : List ℕ
 
+abbrev pub IndexOutcome : Type 0
+IndexOutcome = Outcome Answer IndexStrips
+
 abbrev pub indexStrips : List ℕ → List ℕ → List ℕ → List ℕ → List ℕ → List ℕ → List ℕ → IndexStrips
 indexStrips sums best next left right moves boundaries =
     record { sums = sums; best = best; next = next; left = left; right = right; moves = moves; boundaries = boundaries }
 
 abbrev pub indexHas : IndexStrips → List ℕ
 indexHas s =
-    length (s .sums) ∷ length (s .best) ∷ length (s .next) ∷ length (s .left) ∷ length (s .right) ∷ length (s .moves) ∷ length (s .boundaries) ∷ []
+    length (s .sums) ∷ length (s .best) ∷ length (s .next) ∷ length (s .left) ∷ length (s .right) ∷ length (s .moves)
+    ∷ length (s .boundaries) ∷ []
 
 abbrev pub indexNeeds : ℕ → List ℕ
 indexNeeds n = (n + 1) ∷ (n + 2) ∷ (n + 2) ∷ (n + 2) ∷ (n + 2) ∷ (2 * n) ∷ n ∷ []
@@ -130,20 +139,11 @@ indexWritten l ws s boundaries = record {
   boundaries = over boundaries (s .boundaries);
 }
 
-pub record IndexOutcome : Type 0 where
-  pub answer : Answer
-  pub strips : IndexStrips
-
 unfoldable pub indexSet : PageLimits → List ℕ → IndexStrips → Cost → IndexOutcome
-indexSet l ws s none = record { answer = None (length (pointerMoves l ws)); strips = indexWritten l ws s [] }
-indexSet l ws s (some v) = record {
-  answer = Set v (length (Index.boundaries l ws)) (length (pointerMoves l ws));
-  strips = indexWritten l ws s (Index.boundaries l ws);
-}
+indexSet l ws s best = setOrNone (indexWritten l ws s) (Index.boundaries l ws) (pointerMoves l ws) best
 
 unfoldable pub indexChecked : PageLimits → List ℕ → IndexStrips → Checked → IndexOutcome
-indexChecked l ws s (Refuse r) = record { answer = Refused r; strips = s }
-indexChecked l ws s Accept = indexSet l ws s (Index.best l ws 0)
+indexChecked l ws s c = refusedOr s c (indexSet l ws s (Index.best l ws 0))
 
 unfoldable pub indexOutcome : PageLimits → List ℕ → IndexStrips → IndexOutcome
 indexOutcome l ws s = indexChecked l ws s (checked (pageLimitsHold l) ws (indexHas s) (indexNeeds (length ws)))

@@ -1,7 +1,7 @@
 -- 01, "What a caller is told".
 use Prim.Native.Nat.{ℕ, suc}
 use mathlib.Core.Bool.{Bool, true, false, not}
-use mathlib.Core.List.{List, [], _∷_}
+use mathlib.Core.List.{List, [], _∷_, _++_}
 use lib.Dec.{leb, ltb, eqb}
 use lib.ListN.{length}
 use Rattle.laws.specs.Number.{if}
@@ -60,16 +60,86 @@ firstShort k [] needs = 0
 firstShort k (has ∷ hs) [] = 0
 firstShort k (has ∷ hs) (needs ∷ ns) = elim (leb needs has) [ true ↦ firstShort (suc k) hs ns | false ↦ k ]
 
--- "The setter checks in the order 1 to 6; the first that applies is given." These are 1 to 5, for limits that hold or not, the
--- lengths, what entries the strips have in their order, and what they need.
+-- A row of the table: a refusal, and whether that for which it is given is so. R is Refusal; a later part's is a type of its own, which has
+-- the table's refusals as `plain`.
+pub record Check (R : Type 0) : Type 0 where
+  pub refusal : R
+  pub applies : Bool
+
+infix 70 _when_
+abbrev pub _when_ : {R : Type 0} → R → Bool → Check R
+refusal when applies = record { refusal = refusal; applies = applies }
+
+-- what a part varies
+pub record Checks (R : Type 0) : Type 0 where
+  -- the most words, and n
+  pub most : ℕ
+  pub n : ℕ
+  -- the rows of LIMITS
+  pub limits : List (Check R)
+  -- the first word of a bad length, 0 for none
+  pub word : ℕ
+  -- the part's own rows, before ROOM
+  pub own : List (Check R)
+  -- what entries the strips have, in their order, and what they need
+  pub has : List ℕ
+  pub needs : List ℕ
+
+module _ {R : Type 0} (plain : Refusal → R) where
+  -- "n is 0"
+  abbrev pub EMPTY : ℕ → Check R
+  EMPTY n = plain Empty when eqb n 0
+
+  -- "n > 4,096"
+  abbrev pub MANY : ℕ → ℕ → Check R
+  MANY most n = plain Many when ltb most n
+
+  -- "the limits break the rules above"
+  abbrev pub LIMITS : Bool → Check R
+  LIMITS hold = plain BadLimits when not hold
+
+  -- "some length is 0 or above 4,095", "the first such word"
+  abbrev pub LENGTH : ℕ → Check R
+  LENGTH word = plain (Length word) when not (eqb word 0)
+
+  -- "a strip is too short", "the first such strip's number in the order above"
+  abbrev pub ROOM : ℕ → Check R
+  ROOM strip = plain (Room strip) when not (eqb strip 0)
+
+  -- "The setter checks in the order 1 to 6". These are 1 to 5.
+  abbrev pub inOrder : Checks R → List (Check R)
+  inOrder c = EMPTY (c .n) ∷ MANY (c .most) (c .n) ∷ c .limits ++ LENGTH (c .word) ∷ c .own ++ ROOM (firstShort 1 (c .has) (c .needs)) ∷ []
+
+-- "the first that applies is given": that refusal, or acceptance where none does
+abbrev pub firstGiven : {R A : Type 0} → (R → A) → A → List (Check R) → A
+firstGiven refuse accept [] = accept
+firstGiven refuse accept (c ∷ cs) = if (c .applies) (refuse (c .refusal)) (firstGiven refuse accept cs)
+
+-- what is said of a refusal that was found, and else what comes later
+abbrev pub unless : {A : Type 0} → (Refusal → A) → Checked → A → A
+unless refuse (Refuse r) later = refuse r
+unless refuse Accept later = later
+
+abbrev pub itself : Refusal → Refusal
+itself r = r
+
+abbrev pub given : List (Check Refusal) → Checked
+given = firstGiven Refuse Accept
+
+-- those of a paragraph and of an index, whose limits hold or not
+abbrev pub setterChecks : Bool → List ℕ → List ℕ → List ℕ → Checks Refusal
+setterChecks hold ws has needs = record {
+  most = mostWords;
+  n = length ws;
+  limits = LIMITS itself hold ∷ [];
+  word = firstFailing lengthHolds 1 ws;
+  own = [];
+  has = has;
+  needs = needs;
+}
+
 unfoldable pub checked : Bool → List ℕ → List ℕ → List ℕ → Checked
-checked hold ws has needs =
-    if (eqb (length ws) 0) (Refuse Empty)
-    (if (ltb mostWords (length ws)) (Refuse Many)
-    (if (not hold) (Refuse BadLimits)
-    (if (not (eqb (firstFailing lengthHolds 1 ws) 0)) (Refuse (Length (firstFailing lengthHolds 1 ws)))
-    (if (not (eqb (firstShort 1 has needs) 0)) (Refuse (Room (firstShort 1 has needs)))
-    Accept))))
+checked hold ws has needs = given (inOrder itself (setterChecks hold ws has needs))
 
 -- "The penalty formula can also be asked for alone, from paragraph limits and one length from 0 to 16,773,120. It answers
 -- A·(x - lopt)², inside the measure or not. Bad limits are LIMITS; then a larger length is LENGTH, place 0."

@@ -15,7 +15,8 @@ use Rattle.paper.specs.Paragraph as Paragraph
 use Rattle.paper.specs.Paragraph.{paragraph}
 use Rattle.paper.specs.Index as Index
 use Rattle.paper.specs.Index.{index}
-use Rattle.paper.specs.Marked.{Asked, para, list, found, Row, table, limits, pageLimits, Given, Holds, Each, outcomeOf, computed}
+use Rattle.paper.specs.Allowed.{limitsOf as limits, pageLimitsOf as pageLimits}
+use Rattle.paper.specs.Marked.{Asked, para, list, found, Row, table, Given, Holds, Each, outcomeOf, computed}
 use Rattle.paper.specs.Marked.{rows-computed}
 use Rattle.paper_theory.specs.Cheapest.{best-paragraph, paragraph-cheapest, best-index, index-cheapest}
 

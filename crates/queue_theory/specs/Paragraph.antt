@@ -9,7 +9,7 @@ use lib.ListN.{length}
 use borrow.Author.Tests.{le-leb, lt-leb}
 use Rattle.laws.specs.Cost.{Cost, none, some, before}
 use Rattle.paper.specs.declared.Limits.{Limits}
-use Rattle.paper.specs.Allowed.{Passed, limitsHold}
+use Rattle.paper.specs.Allowed.{ParagraphPassed}
 use Rattle.paper.specs.Lines as Lines
 use Rattle.paper.specs.Lines.{free}
 use Rattle.paper.specs.Paragraph.{line, end, penalty, lines, best, chosenNext}
@@ -26,7 +26,7 @@ nothing-joined : (c : Cost) → c ≡ before _+_ 0 c
 nothing-joined none = refl
 nothing-joined (some v) = ap some (omega arith)
 
-module _ (l : Limits) (ws : List ℕ) (passed : Passed (limitsHold l) ws) where
+module _ (l : Limits) (ws : List ℕ) (passed : ParagraphPassed l ws) where
   r : Ranges l
   r = ranges l (passed .limits)
 

@@ -19,7 +19,8 @@ module _ (ws : List ℕ) (k : ℕ) (ok : ℕ → Bool) where
   failing-here h e =
       rw (drop-cons ws k 0 h) (when-false (ok (getD ws k 0)) (firstFailing ok (suc (k + 1)) (drop (suc k) ws)) (k + 1) e)
 
-  pub failing-later : k < length ws → ok (getD ws k 0) ≡ true → firstFailing ok (k + 1) (drop k ws) ≡ firstFailing ok (k + 1 + 1) (drop (k + 1) ws)
+  pub failing-later : k < length ws → ok (getD ws k 0) ≡ true →
+      firstFailing ok (k + 1) (drop k ws) ≡ firstFailing ok (k + 1 + 1) (drop (k + 1) ws)
   unfolding firstFailing
   failing-later h e =
       rw (drop-cons ws k 0 h, add-one (k + 1), add-one k)
@@ -42,7 +43,8 @@ module _ (ws : List ℕ) (k : ℕ) (ok : ℕ → Bool) (hold : Bool) where
   all-seen h = rw (failing-never ws k ok h) (and-true hold)
 
 module _ (has needs : List ℕ) (k : ℕ) where
-  pub short-here : k < length has → k < length needs → getD has k 0 < getD needs k 0 → firstShort (k + 1) (drop k has) (drop k needs) ≡ k + 1
+  pub short-here : k < length has → k < length needs → getD has k 0 < getD needs k 0 →
+      firstShort (k + 1) (drop k has) (drop k needs) ≡ k + 1
   unfolding firstShort
   short-here h g e =
       rw (drop-cons has k 0 h, drop-cons needs k 0 g)

@@ -1,12 +1,36 @@
--- The limits, once all tests but the last have passed. Assumes nothing.
-use Prim.Native.Nat.{_≤_, _<_}
-use mathlib.Core.Path.{_≡_}
+-- The limits hold where each is in its range, and not where one is out of it. Assumes nothing.
+use mathlib.Core.Path.{_≡_, refl}
+use mathlib.Core.Bool.{Bool, true, false}
 use borrow.Author.Tests.{le-leb, lt-ltb}
-use lib.Dec.{leb}
+use lib.Dec.{T}
 use Rattle.paper.specs.declared.Limits.{Limits}
-use Rattle.paper.specs.Allowed.{limitsHold}
+use Rattle.paper.specs.declared.PageLimits.{PageLimits}
+use Rattle.paper.specs.Allowed.{limitsHold, pageLimitsHold}
+use Rattle.paper_theory.specs.Ranges.{Ranges, ranges, PageRanges, page-ranges}
 
-pub limits-but-a : (l : Limits) → 1 ≤ l .lmin → l .lmin ≤ l .lopt → l .lopt ≤ l .lmax → l .lmax ≤ 4095 → l .lmin < l .lmax → 1 ≤ l .a →
-    limitsHold l ≡ leb (l .a) 15
+fails : (b : Bool) → (T b → ⊥) → false ≡ b
+fails true not = absurd (not tt)
+fails false not = refl
+
+pub limits-fail : (l : Limits) → (Ranges l → ⊥) → false ≡ limitsHold l
+limits-fail l out = fails (limitsHold l) (λ t. out (ranges l t))
+
+pub limits-kept : (l : Limits) → Ranges l → true ≡ limitsHold l
 unfolding limitsHold
-limits-but-a l h1 h2 h3 h4 h5 h6 = simp (le-leb 1 (l .lmin) h1, le-leb _ _ h2, le-leb _ _ h3, le-leb _ _ h4, lt-ltb _ _ h5, le-leb _ _ h6)
+limits-kept l r =
+    simp (
+      le-leb _ _ (r .lmin-low),
+      le-leb _ _ (r .lopt-low),
+      le-leb _ _ (r .lopt-high),
+      le-leb _ _ (r .lmax-high),
+      lt-ltb _ _ (r .apart),
+      le-leb _ _ (r .a-low),
+      le-leb _ _ (r .a-high),
+    )
+
+pub pages-fail : (l : PageLimits) → (PageRanges l → ⊥) → false ≡ pageLimitsHold l
+pages-fail l out = fails (pageLimitsHold l) (λ t. out (page-ranges l t))
+
+pub pages-kept : (l : PageLimits) → PageRanges l → true ≡ pageLimitsHold l
+unfolding pageLimitsHold
+pages-kept l r = simp (lt-ltb _ _ (r .apart), le-leb _ _ (r .lmax-high))

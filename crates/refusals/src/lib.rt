@@ -9,6 +9,7 @@ ghost use lib.Dec.{eqb};
 ghost use lib.ListN.{length};
 ghost use Rattle.paper.specs.Allowed.{lengthHolds, limitsHold, pageLimitsHold};
 ghost use Rattle.paper.specs.Told.{toldRefusal, firstFailing, firstShort, checked};
+ghost use Rattle.refusals.specs.Checks.{wordsFound, lengthsFound, roomFound};
 ghost use Rattle.refusals.specs.Tells.{Tells};
 
 pub fn limits_hold(l: Limits) -> bool
@@ -32,7 +33,10 @@ pub fn limits_hold(l: Limits) -> bool
     if l.a < 1 {
         return false;
     }
-    l.a <= 15
+    if 15 < l.a {
+        return false;
+    }
+    true
 }
 
 pub fn page_limits_hold(l: PageLimits) -> bool
@@ -41,7 +45,10 @@ pub fn page_limits_hold(l: PageLimits) -> bool
     if l.lmax <= l.lmin {
         return false;
     }
-    l.lmax <= 65535
+    if 65535 < l.lmax {
+        return false;
+    }
+    true
 }
 
 fn length_holds(w: u32) -> bool
@@ -97,29 +104,58 @@ fn first_short(has: &[usize], needs: &[usize]) -> usize
     0
 }
 
+// EMPTY and MANY.
+pub fn check_words(most: usize, n: usize) -> Checked
+    ensures { λ r. ⌜ r ≡ wordsFound most n ⌝ }
+{
+    if n == 0 {
+        return Checked::Refuse(Refusal::Empty);
+    }
+    if most < n {
+        return Checked::Refuse(Refusal::Many);
+    }
+    Checked::Accept
+}
+
+// LENGTH.
+pub fn check_lengths(lengths: &[u32]) -> Checked
+    ensures { λ r. ⌜ r ≡ lengthsFound (firstFailing lengthHolds 1 (now (lengths .entry))) ⌝ }
+{
+    if all_hold(lengths) {
+        return Checked::Accept;
+    }
+    Checked::Refuse(Refusal::Length(first_bad(lengths)))
+}
+
+// ROOM.
+pub fn check_room(has: &[usize], needs: &[usize]) -> Checked
+    requires { ⌜ length (now has) ≤ length (now needs) ⌝ }
+    ensures { λ r. ⌜ r ≡ roomFound (now (has .entry)) (now (needs .entry)) ⌝ }
+{
+    let strip = first_short(has, needs);
+    if strip == 0 {
+        return Checked::Accept;
+    }
+    Checked::Refuse(Refusal::Room(strip))
+}
+
 // The first of refusals 1 to 5 that applies; `hold` says whether the limits do.
 pub fn check(hold: bool, lengths: &[u32], has: &[usize], needs: &[usize]) -> Checked
     requires { ⌜ length (now has) ≤ length (now needs) ⌝ }
     ensures { λ r. ⌜ r ≡ checked hold (now (lengths .entry)) (now (has .entry)) (now (needs .entry)) ⌝ }
 {
-    let n = lengths.len();
-    if n == 0 {
-        return Checked::Refuse(Refusal::Empty);
-    }
-    if 4096 < n {
-        return Checked::Refuse(Refusal::Many);
+    let words = check_words(4096, lengths.len());
+    if let Checked::Refuse(r) = words {
+        return Checked::Refuse(r);
     }
     if !hold {
         return Checked::Refuse(Refusal::Limits);
     }
-    if !all_hold(lengths) {
-        return Checked::Refuse(Refusal::Length(first_bad(lengths)));
+    let found = check_lengths(lengths);
+    if let Checked::Refuse(r) = found {
+        return Checked::Refuse(r);
     }
-    let strip = first_short(has, needs);
-    if strip != 0 {
-        return Checked::Refuse(Refusal::Room(strip));
-    }
-    Checked::Accept
+    check_room(has, needs)
 }
 
 // 01's number and place.

@@ -20,7 +20,11 @@ pub fn set_index(
     moves: &mut [u32],
     boundaries: &mut [u32],
 ) -> Answer
-    ensures { λ r. ⌜ IndexPromise (indexOutcome l (now (lengths .entry)) (indexStrips (now (sums .entry)) (now (best .entry)) (now (next .entry)) (now (left .entry)) (now (right .entry)) (now (moves .entry)) (now (boundaries .entry)))) r (indexStrips (now (sums .exit)) (now (best .exit)) (now (next .exit)) (now (left .exit)) (now (right .exit)) (now (moves .exit)) (now (boundaries .exit))) ⌝ }
+    ensures { λ r. ⌜ IndexPromise
+        (indexOutcome l (now (lengths .entry)) (indexStrips (now (sums .entry)) (now (best .entry)) (now (next .entry))
+        (now (left .entry)) (now (right .entry)) (now (moves .entry)) (now (boundaries .entry))))
+        r (indexStrips (now (sums .exit)) (now (best .exit)) (now (next .exit))
+        (now (left .exit)) (now (right .exit)) (now (moves .exit)) (now (boundaries .exit))) ⌝ }
 {
     let n = lengths.len();
     let has = [

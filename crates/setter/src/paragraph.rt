@@ -23,7 +23,11 @@ pub fn set_paragraph(
     moves: &mut [u32],
     breaks: &mut [u32],
 ) -> Answer
-    ensures { λ r. ⌜ ParagraphPromise (paragraphOutcome l (now (lengths .entry)) (paragraphStrips (now (sums .entry)) (now (best .entry)) (now (next .entry)) (now (queue .entry)) (now (moves .entry)) (now (breaks .entry)))) r (paragraphStrips (now (sums .exit)) (now (best .exit)) (now (next .exit)) (now (queue .exit)) (now (moves .exit)) (now (breaks .exit))) ⌝ }
+    ensures { λ r. ⌜ ParagraphPromise
+        (paragraphOutcome l (now (lengths .entry)) (paragraphStrips (now (sums .entry)) (now (best .entry)) (now (next .entry))
+        (now (queue .entry)) (now (moves .entry)) (now (breaks .entry))))
+        r (paragraphStrips (now (sums .exit)) (now (best .exit)) (now (next .exit))
+        (now (queue .exit)) (now (moves .exit)) (now (breaks .exit))) ⌝ }
 {
     let n = lengths.len();
     let has = [

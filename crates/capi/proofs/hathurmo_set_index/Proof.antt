@@ -1,14 +1,8 @@
 -- `capi::hathurmo_set_index` meets its contract. Assumes nothing.
-use mathlib.Core.Path.{subst}
-use Rattle.paper.specs.declared.Answer.{Answer}
-use Rattle.paper.specs.Told.{told}
-use Rattle.capi.specs.Promise.{Tells}
 use borrow.Author.Needs.{needs}
+use Rattle.capi.proofs.Crossing.{crossed}
 use Rattle.capi.proofs.hathurmo_set_index.Statement.{statement}
 use Rattle.capi.proofs.hathurmo_set_index.Tie as tie
-
-returns : tie.Need-returns
-returns c = record { tells = subst (λ (x : Answer). Tells (told x) (c .tell .result)) (c .before .before .before .before .before .before .before .before .before .before .before .before .before .before .before .set-index .ensures .answered) (c .tell .ensures); strips = c .before .before .before .before .before .before .before .before .before .before .before .before .before .before .before .set-index .ensures .strips }
 
 pub hathurmo-set-index-spec : {M : Type 1} → statement M
 hathurmo-set-index-spec =
@@ -23,4 +17,6 @@ hathurmo-set-index-spec =
     (λ c. search needs)
     (λ c. search needs)
     (λ c. search needs)
-    returns)
+    (λ c. let strips = c .before .before .before .before .before .before .before .before in
+    let at = strips .before .before .before .before .before .before .before in
+    crossed (at .set-index .ensures) (c .tell .ensures)))

@@ -1,4 +1,4 @@
--- `rules::all_hold` meets its contract. Assumes nothing.
+-- `refusals::all_hold` meets its contract. Assumes nothing.
 use borrow.Author.Needs.{needs}
 use borrow.Author.Tests.{not-true, not-false}
 use Prim.Native.Nat.{_≤_, _+_, _-_}
@@ -15,7 +15,8 @@ use Rattle.refusals.proofs.all_hold.Tie as tie
 
 abbrev Inv-loop : tie.InvT-loop
 Inv-loop lengths hold₀ k₀ hold k =
-    (k ≤ length lengths) × ((hold && eqb (firstFailing lengthHolds (k + 1) (drop k lengths)) 0) ≡ eqb (firstFailing lengthHolds 1 lengths) 0)
+    (k ≤ length lengths)
+    × ((hold && eqb (firstFailing lengthHolds (k + 1) (drop k lengths)) 0) ≡ eqb (firstFailing lengthHolds 1 lengths) 0)
 
 abbrev μ-loop : tie.MeasureT-loop
 μ-loop lengths hold₀ k₀ hold k = length lengths - k
@@ -25,14 +26,15 @@ loop-holds c = (search needs, refl)
 
 loop-again : tie.Need-loop-again Inv-loop μ-loop
 loop-again c =
-    let ws = c .before .before .before .before .before .before .args .lengths .now in
     let at = c .before .before .before .before .loop in
     let inside = c .before .before .before .loop-test .taken in
-    let told = c .before .length-holds in (
+    let holds = c .before .length-holds in (
       search needs,
       ⊎-elim
-          (λ w. rw (w .1) (sym (all-lost ws _ lengthHolds (at .hold) inside (sym (told .ensures) ∙ not-true (told .result) (w .0 .taken))) ∙ at .inv .1))
-          (λ w. rw (w .1) (sym (all-kept ws _ lengthHolds (at .hold) inside (sym (told .ensures) ∙ not-false (told .result) (w .0 .left))) ∙ at .inv .1))
+          (λ w. rw (w .1)
+          (sym (all-lost _ _ lengthHolds (at .hold) inside (sym (holds .ensures) ∙ not-true (holds .result) (w .0 .taken))) ∙ at .inv .1))
+          (λ w. rw (w .1)
+          (sym (all-kept _ _ lengthHolds (at .hold) inside (sym (holds .ensures) ∙ not-false (holds .result) (w .0 .left))) ∙ at .inv .1))
           (c .if1 .came),
     )
 

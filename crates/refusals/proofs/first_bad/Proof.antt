@@ -1,4 +1,4 @@
--- `rules::first_bad` meets its contract. Assumes nothing.
+-- `refusals::first_bad` meets its contract. Assumes nothing.
 use borrow.Author.Needs.{needs}
 use borrow.Author.Tests.{not-true, not-false}
 use Prim.Native.Nat.{_≤_, _+_, _-_}
@@ -20,10 +20,20 @@ loop-holds : tie.Need-loop-holds Inv-loop μ-loop
 loop-holds c = (search needs, refl)
 
 returns : tie.Need-returns Inv-loop μ-loop
-returns c = sym (failing-here _ _ lengthHolds (c .before .before .before .loop-test .taken) (sym (c .before .length-holds .ensures) ∙ not-true (c .before .length-holds .result) (c .if1 .taken))) ∙ c .before .before .before .before .loop .inv .1
+returns c =
+    let inside = c .before .before .before in
+    let holds = c .before .length-holds in
+    sym (failing-here _ _ lengthHolds (inside .loop-test .taken) (sym (holds .ensures) ∙ not-true (holds .result) (c .if1 .taken)))
+    ∙ inside .before .loop .inv .1
 
 loop-again : tie.Need-loop-again Inv-loop μ-loop
-loop-again c = (search needs, sym (failing-later _ _ lengthHolds (c .before .before .before .loop-test .taken) (sym (c .before .length-holds .ensures) ∙ not-false (c .before .length-holds .result) (c .if1 .left))) ∙ c .before .before .before .before .loop .inv .1)
+loop-again c =
+    let inside = c .before .before .before in
+    let holds = c .before .length-holds in (
+      search needs,
+      sym (failing-later _ _ lengthHolds (inside .loop-test .taken) (sym (holds .ensures) ∙ not-false (holds .result) (c .if1 .left)))
+          ∙ inside .before .loop .inv .1,
+    )
 
 returns-2 : tie.Need-returns-2 Inv-loop μ-loop
 returns-2 c = sym (failing-never _ _ lengthHolds (c .loop-test .left)) ∙ c .before .loop .inv .1

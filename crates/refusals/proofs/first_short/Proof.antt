@@ -1,4 +1,4 @@
--- `rules::first_short` meets its contract. Assumes nothing.
+-- `refusals::first_short` meets its contract. Assumes nothing.
 use native.Mathlib.Omega.{arith}
 use borrow.Author.Needs.{needs}
 use Prim.Native.Nat.{_≤_, _+_, _-_}
@@ -22,10 +22,14 @@ mul-if1-2 : tie.Need-mul-if1-2 Inv-loop μ-loop
 mul-if1-2 c = omega (arith, c .before .before .before .pre, c .before .before .before .good)
 
 returns : tie.Need-returns Inv-loop μ-loop
-returns c = sym (short-here _ _ _ (c .before .before .before .loop-test .taken) (omega arith) (c .if1 .taken)) ∙ c .before .before .before .before .loop .inv .1
+returns c =
+    let inside = c .before .before .before in
+    sym (short-here _ _ _ (inside .loop-test .taken) (omega arith) (c .if1 .taken)) ∙ inside .before .loop .inv .1
 
 loop-again : tie.Need-loop-again Inv-loop μ-loop
-loop-again c = (search needs, sym (short-later _ _ _ (c .before .before .before .loop-test .taken) (omega arith) (c .if1 .left)) ∙ c .before .before .before .before .loop .inv .1)
+loop-again c =
+    let inside = c .before .before .before in
+    (search needs, sym (short-later _ _ _ (inside .loop-test .taken) (omega arith) (c .if1 .left)) ∙ inside .before .loop .inv .1)
 
 returns-2 : tie.Need-returns-2 Inv-loop μ-loop
 returns-2 c = sym (short-never _ _ _ (c .loop-test .left)) ∙ c .before .loop .inv .1

@@ -1,16 +1,9 @@
--- `rules::page_limits_hold` meets its contract. Assumes nothing.
-use borrow.Author.Tests.{le-ltb, lt-ltb}
-use Rattle.paper.specs.Allowed.{pageLimitsHold}
+-- `refusals::page_limits_hold` meets its contract: at each exit a range is broken, or none is. Assumes nothing.
+use native.Mathlib.Omega.{arith}
+use Rattle.refusals.proofs.Limits.{pages-fail, pages-kept}
 use Rattle.refusals.proofs.page_limits_hold.Statement.{statement}
 use Rattle.refusals.proofs.page_limits_hold.Tie as tie
 
-returns : tie.Need-returns
-unfolding pageLimitsHold
-returns c = simp (le-ltb _ _ (c .if1 .taken))
-
-returns-2 : tie.Need-returns-2
-unfolding pageLimitsHold
-returns-2 c = simp (lt-ltb _ _ (c .before .if1 .left))
-
 pub page-limits-hold-spec : {M : Type 1} → statement M
-page-limits-hold-spec = tie.close (tie.spec returns returns-2)
+page-limits-hold-spec =
+    tie.close (tie.spec (λ c. pages-fail _ (λ r. omega arith)) (λ c. pages-fail _ (λ r. omega arith)) (λ c. pages-kept _ (omega arith)))

@@ -1,18 +1,36 @@
 -- `setter::set_index` meets its contract. Assumes nothing.
-use mathlib.Core.Path.{sym, _∙_}
-use Rattle.setter.proofs.Keeping.{index-refused, index-passes, index-kept}
+use mathlib.Core.Path.{refl, ap, sym, _∙_}
 use borrow.Author.Needs.{needs}
+use Rattle.laws.specs.Outcome.{answers}
+use Rattle.paper.specs.Strips.{IndexOutcome, indexChecked, indexOutcome}
+use Rattle.setter.proofs.Keeping.{index-passes}
 use Rattle.setter.proofs.index.set_index.Statement.{statement}
 use Rattle.setter.proofs.index.set_index.Tie as tie
 
 returns : tie.Need-returns
-returns c = index-refused _ _ _ (c .before .before .before .before .before .before .page-limits-hold .result) (c .before .before .before .before .before .before .page-limits-hold .ensures) _ (sym (c .before .checked .given .1) ∙ c .before .before .before .check .ensures)
+unfolding indexOutcome indexChecked
+returns c =
+    let check = c .before .before .before in
+    let hold = check .before .before .before .page-limits-hold in
+    rw (← hold .ensures, ← check .check .ensures, c .before .checked .given .1) (record { tells = answers refl; strips = refl })
 
 page-requires : tie.Need-page-requires
-page-requires c κs = index-passes _ _ _ (c .before .before .before .before .before .before .before .before .before .before .before .before .page-limits-hold .result) (c .before .before .before .before .before .before .before .before .before .before .before .before .page-limits-hold .ensures) (sym (c .before .before .before .before .before .before .before .enum-told .given .1) ∙ c .before .before .before .before .before .before .before .before .before .check .ensures)
+page-requires c κs =
+    let told = c .before .before .before .before .before .before .before in
+    let check = told .before .before in
+    let hold = check .before .before .before .page-limits-hold in
+    index-passes _ _ _ (rw (← hold .ensures) (sym (check .check .ensures) ∙ told .enum-told .given .1))
 
 returns-2 : tie.Need-returns-2
-returns-2 c = index-kept _ _ _ (c .before .before .before .before .before .before .before .before .before .before .before .before .before .before .before .before .before .before .before .before .before .before .before .before .before .before .before .page-limits-hold .result) (c .before .before .before .before .before .before .before .before .before .before .before .before .before .before .before .before .before .before .before .before .before .before .before .before .before .before .before .page-limits-hold .ensures) (sym (c .before .before .before .before .before .before .before .before .before .before .before .before .before .before .before .before .before .before .before .before .before .before .enum-told .given .1) ∙ c .before .before .before .before .before .before .before .before .before .before .before .before .before .before .before .before .before .before .before .before .before .before .before .before .check .ensures) _ _ (c .before .before .before .before .before .before .before .before .before .before .before .before .before .before .page .ensures)
+unfolding indexOutcome indexChecked
+returns-2 c =
+    let page = c .before .before .before .before .before .before .before .before .before .before .before .before .before .before in
+    let told = page .before .before .before .before .before .before .before .before in
+    let check = told .before .before in
+    let hold = check .before .before .before .page-limits-hold in
+    let is = page .page .ensures in
+    rw (← hold .ensures, ← check .check .ensures, told .enum-told .given .1)
+    (record { tells = answers (ap (λ (o : IndexOutcome). o .answer) is); strips = ap (λ (o : IndexOutcome). o .strips) is })
 
 pub set-index-spec : {M : Type 1} → statement M
 set-index-spec =

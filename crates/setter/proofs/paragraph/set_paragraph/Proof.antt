@@ -1,18 +1,35 @@
 -- `setter::set_paragraph` meets its contract. Assumes nothing.
-use mathlib.Core.Path.{sym, _∙_}
-use Rattle.setter.proofs.Keeping.{paragraph-refused, paragraph-passes, paragraph-kept}
+use mathlib.Core.Path.{refl, sym, _∙_}
 use borrow.Author.Needs.{needs}
+use Rattle.laws.specs.Outcome.{answers}
+use Rattle.paper.specs.Strips.{paragraphChecked, paragraphOutcome}
+use Rattle.setter.proofs.Keeping.{paragraph-passes}
 use Rattle.setter.proofs.paragraph.set_paragraph.Statement.{statement}
 use Rattle.setter.proofs.paragraph.set_paragraph.Tie as tie
 
 returns : tie.Need-returns
-returns c = paragraph-refused _ _ _ (c .before .before .before .before .before .before .limits-hold .result) (c .before .before .before .before .before .before .limits-hold .ensures) _ (sym (c .before .checked .given .1) ∙ c .before .before .before .check .ensures)
+unfolding paragraphOutcome paragraphChecked
+returns c =
+    let check = c .before .before .before in
+    let hold = check .before .before .before .limits-hold in
+    rw (← hold .ensures, ← check .check .ensures, c .before .checked .given .1) (record { tells = answers refl; strips = refl })
 
 set-requires : tie.Need-set-requires
-set-requires c κs = paragraph-passes _ _ _ (c .before .before .before .before .before .before .before .before .before .before .before .limits-hold .result) (c .before .before .before .before .before .before .before .before .before .before .before .limits-hold .ensures) (sym (c .before .before .before .before .before .before .enum-told .given .1) ∙ c .before .before .before .before .before .before .before .before .check .ensures)
+set-requires c κs =
+    let told = c .before .before .before .before .before .before in
+    let check = told .before .before in
+    let hold = check .before .before .before .limits-hold in
+    paragraph-passes _ _ _ (rw (← hold .ensures) (sym (check .check .ensures) ∙ told .enum-told .given .1))
 
 returns-2 : tie.Need-returns-2
-returns-2 c = paragraph-kept _ _ _ (c .before .before .before .before .before .before .before .before .before .before .before .before .before .before .before .before .before .before .before .before .before .before .before .before .limits-hold .result) (c .before .before .before .before .before .before .before .before .before .before .before .before .before .before .before .before .before .before .before .before .before .before .before .before .limits-hold .ensures) (sym (c .before .before .before .before .before .before .before .before .before .before .before .before .before .before .before .before .before .before .before .enum-told .given .1) ∙ c .before .before .before .before .before .before .before .before .before .before .before .before .before .before .before .before .before .before .before .before .before .check .ensures) _ _ (c .before .before .before .before .before .before .before .before .before .before .before .before .set .ensures)
+unfolding paragraphOutcome paragraphChecked
+returns-2 c =
+    let set = c .before .before .before .before .before .before .before .before .before .before .before .before in
+    let told = set .before .before .before .before .before .before .before in
+    let check = told .before .before in
+    let hold = check .before .before .before .limits-hold in
+    rw (← hold .ensures, ← check .check .ensures, told .enum-told .given .1)
+    (record { tells = answers (set .set .ensures .tells); strips = set .set .ensures .strips })
 
 pub set-paragraph-spec : {M : Type 1} → statement M
 set-paragraph-spec =
