@@ -4,9 +4,9 @@ use mathlib.Core.Path.{_≡_}
 use mathlib.Core.List.{List, [], _∷_, reverse}
 use native.Mathlib.Numerals.{add-one}
 use native.Mathlib.Omega.{arith}
-use lib.ListN.{length, getD, take, drop-of-length-le}
-use lib.Seq.{slice, slice-cons, length-take-le}
-use Rattle.laws.specs.Members.{slice-rear}
+use lib.ListN.{length, getD, take, drop, take-append-drop, drop-of-length-le}
+use lib.Seq.{slice, slice-cons, drop-drop, length-take-le}
+use Rattle.laws.specs.Members.{Pairs, pairs-right, slice-rear}
 
 pub record Part : Type 0 where
   pub strip : List ℕ
@@ -32,3 +32,10 @@ module _ (s : List ℕ) {f e : ℕ} (fits : e ≤ length s) where
 
   pub part-none : e ≤ f → slice f e s ≡ []
   part-none h = drop-of-length-le (take e s) {i = f} (omega (arith, length-take-le e s fits))
+
+-- what holds of each two holds of each two from a later place on
+pub part-later : (R : ℕ → ℕ → Type 0) (s : List ℕ) (f g e : ℕ) → f ≤ g → Pairs R (slice f e s) → Pairs R (slice g e s)
+part-later R s f g e h pairs =
+    let z : f + (g - f) ≡ g = omega arith in
+    let rest : drop (g - f) (slice f e s) ≡ slice g e s = rw z at (drop-drop (g - f) f (take e s)) in
+    pairs-right R (take (g - f) (slice f e s)) (slice g e s) (rw (← rest, take-append-drop) pairs)

@@ -1,70 +1,66 @@
--- A candidate is passed, or added; and the candidates one after the other. Assumes nothing.
+-- A candidate is passed, or added. Assumes nothing.
 use Prim.Native.Nat.{ℕ, _-_, _^_, _≤_, _<_}
-use mathlib.Core.Path.{_≡_, refl}
+use mathlib.Core.Path.{_≡_, refl, ap}
 use mathlib.Core.Logic.{⊎-elim}
 use mathlib.Core.List.{List}
 use native.Mathlib.Omega.{arith}
 use borrow.Author.Tests.{eq-eqb}
 use lib.ListN.{getD}
-use lib.Seq.{slice}
-use Rattle.laws.specs.Number.{split}
-use Rattle.paper.specs.declared.Limits.{Limits}
+use Rattle.laws.specs.Part.{Part, listed}
 use Rattle.paper.specs.declared.Kind.the-variants.{Pass}
 use Rattle.paper.specs.Moves.{move, moved, still}
-use Rattle.paper.specs.QueueRules.{add, consider}
+use Rattle.paper.specs.QueueRules.{consider}
 use Rattle.queue_theory.specs.Turns.{consider-long, consider-none, consider-add}
-use Rattle.lines.specs.Held.{span, textIn}
+use Rattle.lines.specs.declared.Break.{Break}
+use Rattle.lines.specs.Held.{textIn}
+use Rattle.lines.specs.Asks.{costliest}
 use Rattle.strips.specs.Costs.{costOf, cost-number}
-use Rattle.queue.specs.Asks.{Member, AddAsks, ConsiderAsks, Passes, Added}
+use Rattle.strips.specs.declared.Reached.{Reached}
+use Rattle.queue.specs.Asks.{Start, textAt, ConsiderAsks, AddAsks, Passes, Adds, Considers}
+use Rattle.queue.proofs.Members.{past-in}
 
--- a candidate that is considered is above the start
-reaches : (S : List ℕ) (i j lmin : ℕ) → 1 ≤ lmin → lmin ≤ span S i j → i ≤ j → i < j
-reaches S i j lmin low reach near =
-    ⊎-elim
-    (λ h. let e : j ≡ i = omega arith in absurd (omega (arith, rw e at reach)))
-    (λ h. h)
-    (split j i)
+module _ {s : Start} {j : ℕ} {new : Break} {q : Part} {t room : ℕ} (a : ConsiderAsks s j new q t room) where
+  end-is : new .end ≡ getD (s .ends) (j - 1) 0
+  end-is = ap (λ (b : Break). b .end) (a .read)
 
-module _ (l : Limits) (i j : ℕ) (S B Q : List ℕ) (f e t room : ℕ) (a : ConsiderAsks l i j S B Q f e t room) where
-  pub above : i < j
-  above = reaches S i j (l .lmin) (a .words .ranges .lmin-low) (a .reach) (a .queued .near)
+  best-is : new .best ≡ getD (s .best) (j - 1) 0
+  best-is = ap (λ (b : Break). b .best) (a .read)
 
-  -- its entry of the best strip is a number
-  pub numbered : (getD B (j - 1) 0 ≡ 2 ^ 64 - 1 → ⊥) → getD B (j - 1) 0 < 2 ^ 40
-  numbered other = ⊎-elim (λ h. absurd (other h)) (λ h. h) (a .bests j above (omega (arith, a .queued .within, a .words .same)))
+  module _ (high : new .end ≤ s .measure .far) (other : new .best ≡ 2 ^ 64 - 1 → ⊥) where
+    number : new .best < costliest
+    number = ⊎-elim (λ h. absurd (other h)) (λ h. h) (a .known)
 
-  pub considering-new : (x : ℕ) → x ≡ span S i j → x ≤ l .lmax → (getD B (j - 1) 0 ≡ 2 ^ 64 - 1 → ⊥) → Member l S B i j
-  considering-new x v short other = record {
-    break = record { first = a .first; above = above; within = a .queued .within };
-    measure = record { ranges = a .words .ranges; low = a .reach; high = omega arith };
-    number = record { within = omega (arith, a .queued .within, a .words .same); small = numbered other };
-  }
+    pub considering-add : AddAsks s j new q t room
+    considering-add = record { consider = a; high = high; number = number }
 
-  pub considering-add : (x : ℕ) → x ≡ span S i j → x ≤ l .lmax → (getD B (j - 1) 0 ≡ 2 ^ 64 - 1 → ⊥) → AddAsks l i j S B Q f e t room
-  considering-add x v short other = record { words = a .words; queued = a .queued; new = considering-new x v short other; enough = a .enough }
+    pub considering-done : {m₀ : List ℕ} {r : Reached} {Q m : List ℕ} → Adds s j q t m₀ r Q m → Considers s j q t m₀ r Q m
+    unfolding textIn
+    considering-done d = record {
+      low = d .low;
+      high = d .high;
+      same = d .same;
+      ran = λ i before.
+          rw (consider-add (textAt s) i j (listed q)
+          (past-in (a .readable) i j before .short (omega (arith, end-is)))
+          (rw (cost-number (getD (s .best) (j - 1) 0) (omega (arith, number, best-is))) tt))
+          (d .ran i before);
+    }
 
-  passed : (m₀ : List ℕ) (r u : ℕ) (m : List ℕ) → consider (textIn l S B) i j (slice f e Q) ≡ moved (move Pass j) (still (slice f e Q)) →
-      Passes j e t m₀ r u m → Added (consider (textIn l S B) i j (slice f e Q)) Q f e t m₀ r u Q m
-  passed m₀ r u m is p = record {
-    ran = rw (is, p .stays) (p .ran (slice f e Q));
-    low = omega (arith, p .stays, a .queued .order);
-    high = omega (arith, p .stays);
-    same = refl;
-  }
+  module _ {m₀ : List ℕ} {r : Reached} {m : List ℕ} (p : Passes j (q .to) t m₀ m r) where
+    passed : ((i : ℕ) → i < j → consider (textAt s) i j (listed q) ≡ moved (move Pass j) (still (listed q))) → Considers s j q t m₀ r (q .strip) m
+    passed rule = record {
+      low = omega (arith, p .stays, a .queued .order);
+      high = omega (arith, p .stays);
+      same = refl;
+      ran = λ i before. rw (rule i before, p .stays) (p .ran (listed q));
+    }
 
-  pub considering-long : (x : ℕ) (m₀ : List ℕ) (r u : ℕ) (m : List ℕ) → x ≡ span S i j → l .lmax < x → Passes j e t m₀ r u m →
-      Added (consider (textIn l S B) i j (slice f e Q)) Q f e t m₀ r u Q m
-  unfolding textIn
-  considering-long x m₀ r u m v long p = passed m₀ r u m (consider-long (textIn l S B) i j (slice f e Q) (rw v at long)) p
+    pub considering-long : s .measure .far < new .end → Considers s j q t m₀ r (q .strip) m
+    considering-long long =
+        passed (λ i before. consider-long (textAt s) i j (listed q) (past-in (a .readable) i j before .long (omega (arith, end-is))))
 
-  pub considering-none : (m₀ : List ℕ) (r u : ℕ) (m : List ℕ) → getD B (j - 1) 0 ≡ 2 ^ 64 - 1 → Passes j e t m₀ r u m →
-      Added (consider (textIn l S B) i j (slice f e Q)) Q f e t m₀ r u Q m
-  unfolding textIn costOf
-  considering-none m₀ r u m v p =
-      passed m₀ r u m (consider-none (textIn l S B) i j (slice f e Q) (λ h. rw (eq-eqb (getD B (j - 1) 0) (2 ^ 64 - 1) v) at h)) p
-
-  pub considering-done : (x : ℕ) (m₀ : List ℕ) (r u : ℕ) (Q′ m : List ℕ) → x ≡ span S i j → x ≤ l .lmax → (getD B (j - 1) 0 ≡ 2 ^ 64 - 1 → ⊥) →
-      Added (add (textIn l S B) i j (slice f e Q)) Q f e t m₀ r u Q′ m → Added (consider (textIn l S B) i j (slice f e Q)) Q f e t m₀ r u Q′ m
-  unfolding textIn
-  considering-done x m₀ r u Q′ m v short other d =
-      rw (consider-add (textIn l S B) i j (slice f e Q) (rw v at short) (rw (cost-number (getD B (j - 1) 0) (omega (arith, numbered other))) tt)) d
+    pub considering-none : new .best ≡ 2 ^ 64 - 1 → Considers s j q t m₀ r (q .strip) m
+    unfolding textIn costOf
+    considering-none none =
+        passed (λ i before. consider-none (textAt s) i j (listed q)
+        (λ h. rw (eq-eqb (getD (s .best) (j - 1) 0) (2 ^ 64 - 1) (omega (arith, best-is))) at h))

@@ -1,8 +1,8 @@
-pub mod Ends
-pub mod Turns
+pub mod Shedding
+pub mod Dropping
+pub mod Popping
 pub mod Members
 pub mod Adding
-pub mod Passing
 pub mod Considering
-pub mod Going
+pub mod Trying
 pub mod Starting

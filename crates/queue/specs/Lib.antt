@@ -1,1 +1,2 @@
 pub mod Asks
+pub mod Next

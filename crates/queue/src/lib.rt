@@ -1,7 +1,11 @@
 // The queue rules of document 01, a start at a time. The queue stands in its strip from `front` up to `end`, and the start has taken
 // `count` moves. Workshop parts: they ask what their callers meet.
+use lines::Break;
+use lines::Measure;
+use lines::break_of;
 use lines::bridged;
-use lines::line;
+use lines::curve;
+use lines::end_of;
 use lines::through;
 use paper::Kind;
 use paper::Limits;
@@ -9,42 +13,55 @@ use paper::Move;
 use strips::NONE;
 use strips::Reached;
 use strips::put;
-use strips::wide;
 ghost use lib.ListN.{length};
-ghost use lib.Seq.{slice};
-ghost use Prim.Native.Nat.{ℕ, _≤_, _<_};
-ghost use mathlib.Core.List.{List, reverse};
-ghost use Rattle.paper.specs.QueueRules.{dropLong, popWorse, popBridged, add as isAdd, consider as isConsider, dropWorse, atStart};
-ghost use Rattle.lines.specs.Held.{textIn};
-ghost use Rattle.queue.specs.Asks.{DropLongAsks, DropWorseAsks, PopWorseAsks, PopBridgedAsks, AddAsks, ConsiderAsks, CandidatesAsks, StartAsks, Dropped, Popped, Passes, Added, Considered, Left};
+ghost use Prim.Native.Nat.{_≤_, _<_};
+ghost use Rattle.laws.specs.Part.{part};
+ghost use Rattle.lines.specs.Asks.{Indexed, Through};
+ghost use Rattle.queue.specs.Asks.{ShedAsks, LongDropped, WorseDropped, WorsePopped, PopBridgedAsks, BridgedPopped};
+ghost use Rattle.queue.specs.Asks.{start, AddAsks, ConsiderAsks, Passes, Adds, Considers};
+ghost use Rattle.queue.specs.Asks.{CandidatesAsk, CandidatesLeave, stood, StartAsks, StartLeaves};
 
-// Where the queue stands in its strip, the next candidate, and the moves taken so far.
+// Where the queue stands in its strip, the next candidate, the moves taken so far, and what the front costs: NONE with an empty queue.
 pub struct Queue {
     pub front: usize,
     pub end: usize,
     pub candidate: usize,
     pub moves: usize,
+    pub cost: u64,
+}
+
+// What rule 2 leaves: the place behind the rear, the next candidate, and the moves so far.
+struct Rear {
+    at: usize,
+    candidate: usize,
+    moves: usize,
+}
+
+// What rule 3 leaves: the place of the front, what it costs, and the moves so far.
+struct Front {
+    at: usize,
+    cost: u64,
+    moves: usize,
 }
 
 // "1. While the front has Line > lmax: Drop it." Answers the place of the front.
 fn drop_long(
-    l: Limits,
-    i: usize,
-    sums: &[u32],
+    far: u32,
+    ends: &[u32],
     queue: &[u32],
     front: usize,
     end: usize,
     moves: &mut [u32],
     count: usize,
 ) -> Reached
-    requires { ⌜ DropLongAsks l i (now sums) (now queue) front end count (length (now moves)) ⌝ }
-    ensures { λ r. ⌜ ((B : List ℕ) → Dropped (dropLong (textIn l (now (sums .entry)) B) i (slice front end (now (queue .entry)))) (now (queue .entry)) front end count (now (moves .entry)) (r .at) (r .moves) (now (moves .exit))) ⌝ }
+    requires { ⌜ ShedAsks (Indexed (now ends)) (part (now queue) front end) count (length (now moves)) ⌝ }
+    ensures { λ r. ⌜ LongDropped (now (ends .entry)) far (part (now (queue .entry)) front end) count (now (moves .entry)) (now (moves .exit)) r ⌝ }
 {
     let mut at = front;
     let mut taken = count;
     while at < end {
         let j = queue[at];
-        if line(sums, i, wide(j)) <= l.lmax {
+        if end_of(ends, j) <= far {
             break;
         }
         put(
@@ -64,25 +81,25 @@ fn drop_long(
 // "Pop the rear while F(i, candidate) ≤ F(i, rear)". Answers the place behind the rear.
 fn pop_worse(
     l: Limits,
-    i: usize,
-    sums: &[u32],
+    goal: u32,
+    ends: &[u32],
     best: &[u64],
     queue: &[u32],
     front: usize,
     end: usize,
-    j: usize,
+    cost: u64,
     moves: &mut [u32],
     count: usize,
 ) -> Reached
-    requires { ⌜ PopWorseAsks l i j (now sums) (now best) (now queue) front end count (length (now moves)) ⌝ }
-    ensures { λ r. ⌜ Popped (popWorse (textIn l (now (sums .entry)) (now (best .entry))) i j (reverse (slice front end (now (queue .entry))))) (now (queue .entry)) front end count (now (moves .entry)) (r .at) (r .moves) (now (moves .exit)) ⌝ }
+    requires { ⌜ ShedAsks (Through l goal (now ends) (now best)) (part (now queue) front end) count (length (now moves)) ⌝ }
+    ensures { λ r. ⌜ WorsePopped l goal (now (ends .entry)) (now (best .entry)) cost (part (now (queue .entry)) front end) count
+        (now (moves .entry)) (now (moves .exit)) r ⌝ }
 {
-    let new = through(l, sums, best, i, j);
     let mut at = end;
     let mut taken = count;
     while front < at {
         let k = queue[at - 1];
-        if through(l, sums, best, i, wide(k)) < new {
+        if through(l, goal, ends, best, k) < cost {
             break;
         }
         put(
@@ -102,24 +119,25 @@ fn pop_worse(
 // "Pop the rear while two or more stand and the rear is bridged". Answers the place behind the rear.
 fn pop_bridged(
     l: Limits,
-    sums: &[u32],
+    ends: &[u32],
     best: &[u64],
     queue: &[u32],
     front: usize,
     end: usize,
-    j: usize,
+    new: Break,
     moves: &mut [u32],
     count: usize,
 ) -> Reached
-    requires { ⌜ PopBridgedAsks l j (now sums) (now best) (now queue) front end count (length (now moves)) ⌝ }
-    ensures { λ r. ⌜ Popped (popBridged (textIn l (now (sums .entry)) (now (best .entry))) j (reverse (slice front end (now (queue .entry))))) (now (queue .entry)) front end count (now (moves .entry)) (r .at) (r .moves) (now (moves .exit)) ⌝ }
+    requires { ⌜ PopBridgedAsks l (now ends) (now best) new (part (now queue) front end) count (length (now moves)) ⌝ }
+    ensures { λ r. ⌜ BridgedPopped l (now (ends .entry)) (now (best .entry)) new (part (now (queue .entry)) front end) count
+        (now (moves .entry)) (now (moves .exit)) r ⌝ }
 {
     let mut at = end;
     let mut taken = count;
     while front + 1 < at {
         let k = queue[at - 1];
         let n = queue[at - 2];
-        if !bridged(l, sums, best, j, wide(k), wide(n)) {
+        if !bridged(l, new, break_of(ends, best, k), break_of(ends, best, n)) {
             break;
         }
         put(
@@ -136,29 +154,35 @@ fn pop_bridged(
     Reached { at, moves: taken }
 }
 
-// "3. While two or more stand and F of the second is ≤ F of the front: Drop the front." Answers the place of the front.
+// "3. While two or more stand and F of the second is ≤ F of the front: Drop the front."
 fn drop_worse(
     l: Limits,
-    i: usize,
-    sums: &[u32],
+    goal: u32,
+    ends: &[u32],
     best: &[u64],
     queue: &[u32],
     front: usize,
     end: usize,
     moves: &mut [u32],
     count: usize,
-) -> Reached
-    requires { ⌜ DropWorseAsks l i (now sums) (now best) (now queue) front end count (length (now moves)) ⌝ }
-    ensures { λ r. ⌜ Dropped (dropWorse (textIn l (now (sums .entry)) (now (best .entry))) i (slice front end (now (queue .entry)))) (now (queue .entry)) front end count (now (moves .entry)) (r .at) (r .moves) (now (moves .exit)) ⌝ }
+) -> Front
+    requires { ⌜ ShedAsks (Through l goal (now ends) (now best)) (part (now queue) front end) count (length (now moves)) ⌝ }
+    ensures { λ r. ⌜ WorseDropped l goal (now (ends .entry)) (now (best .entry)) (part (now (queue .entry)) front end) count
+        (now (moves .entry)) (now (moves .exit)) r ⌝ }
 {
+    if end <= front {
+        return Front {
+            at: front,
+            cost: NONE,
+            moves: count,
+        };
+    }
     let mut at = front;
     let mut taken = count;
+    let mut cost = through(l, goal, ends, best, queue[front]);
     while at + 1 < end {
-        let j = queue[at];
-        let k = queue[at + 1];
-        let first = through(l, sums, best, i, wide(j));
-        let second = through(l, sums, best, i, wide(k));
-        if first < second {
+        let second = through(l, goal, ends, best, queue[at + 1]);
+        if cost < second {
             break;
         }
         put(
@@ -166,19 +190,24 @@ fn drop_worse(
             taken,
             Move {
                 kind: Kind::Drop,
-                index: j,
+                index: queue[at],
             },
         );
+        cost = second;
         at += 1;
         taken += 1;
     }
-    Reached { at, moves: taken }
+    Front {
+        at,
+        cost,
+        moves: taken,
+    }
 }
 
 // A candidate is passed. It leaves the queue as it is.
 fn pass(j: usize, end: usize, moves: &mut [u32], count: usize) -> Reached
     requires { ⌜ (count < length (now moves)) × (j ≤ 4097) ⌝ }
-    ensures { λ r. ⌜ Passes j end count (now (moves .entry)) (r .at) (r .moves) (now (moves .exit)) ⌝ }
+    ensures { λ r. ⌜ Passes j end count (now (moves .entry)) (now (moves .exit)) r ⌝ }
 {
     put(
         moves,
@@ -197,30 +226,44 @@ fn pass(j: usize, end: usize, moves: &mut [u32], count: usize) -> Reached
 // The rear is popped twice over, and the candidate added.
 fn add(
     l: Limits,
-    i: usize,
-    sums: &[u32],
+    p: Measure,
+    ends: &[u32],
     best: &[u64],
     queue: &mut [u32],
     front: usize,
     end: usize,
     j: usize,
+    new: Break,
     moves: &mut [u32],
     count: usize,
 ) -> Reached
-    requires { ⌜ AddAsks l i j (now sums) (now best) (now queue) front end count (length (now moves)) ⌝ }
-    ensures { λ r. ⌜ Added (isAdd (textIn l (now (sums .entry)) (now (best .entry))) i j (slice front end (now (queue .entry)))) (now (queue .entry)) front end count (now (moves .entry)) (r .at) (r .moves) (now (queue .exit)) (now (moves .exit)) ⌝ }
+    requires { ⌜ AddAsks (start l p (now ends) (now best)) j new (part (now queue) front end) count (length (now moves)) ⌝ }
+    ensures { λ r. ⌜ Adds (start l p (now (ends .entry)) (now (best .entry))) j (part (now (queue .entry)) front end) count
+        (now (moves .entry)) r (now (queue .exit)) (now (moves .exit)) ⌝ }
 {
-    let worse = pop_worse(l, i, sums, best, queue, front, end, j, moves, count);
-    let rear = pop_bridged(l, sums, best, queue, front, worse.at, j, moves, worse.moves);
+    let cost = curve(l, p.goal, new);
+    let worse = pop_worse(l, p.goal, ends, best, queue, front, end, cost, moves, count);
+    let rear = pop_bridged(
+        l,
+        ends,
+        best,
+        queue,
+        front,
+        worse.at,
+        new,
+        moves,
+        worse.moves,
+    );
     let at = rear.at;
     let taken = rear.moves;
-    queue[at] = j as u32;
+    let index = j as u32;
+    queue[at] = index;
     put(
         moves,
         taken,
         Move {
             kind: Kind::Add,
-            index: j as u32,
+            index,
         },
     );
     Reached {
@@ -232,33 +275,36 @@ fn add(
 // "if it is above lmax, or the candidate has no setting, Pass it. Otherwise" pop and add.
 fn consider(
     l: Limits,
-    i: usize,
-    sums: &[u32],
+    p: Measure,
+    ends: &[u32],
     best: &[u64],
     queue: &mut [u32],
     front: usize,
     end: usize,
     j: usize,
+    new: Break,
     moves: &mut [u32],
     count: usize,
 ) -> Reached
-    requires { ⌜ ConsiderAsks l i j (now sums) (now best) (now queue) front end count (length (now moves)) ⌝ }
-    ensures { λ r. ⌜ Added (isConsider (textIn l (now (sums .entry)) (now (best .entry))) i j (slice front end (now (queue .entry)))) (now (queue .entry)) front end count (now (moves .entry)) (r .at) (r .moves) (now (queue .exit)) (now (moves .exit)) ⌝ }
+    requires { ⌜ ConsiderAsks (start l p (now ends) (now best)) j new (part (now queue) front end) count (length (now moves)) ⌝ }
+    ensures { λ r. ⌜ Considers (start l p (now (ends .entry)) (now (best .entry))) j (part (now (queue .entry)) front end) count
+        (now (moves .entry)) r (now (queue .exit)) (now (moves .exit)) ⌝ }
 {
-    if l.lmax < line(sums, i, j) {
+    if p.far < new.end {
         return pass(j, end, moves, count);
     }
-    if best[j - 1] == NONE {
+    if new.best == NONE {
         return pass(j, end, moves, count);
     }
-    add(l, i, sums, best, queue, front, end, j, moves, count)
+    add(l, p, ends, best, queue, front, end, j, new, moves, count)
 }
 
 // "2. While Line(i, candidate) ≥ lmin: [..] The candidate then falls by one."
 fn candidates(
     l: Limits,
     i: usize,
-    sums: &[u32],
+    p: Measure,
+    ends: &[u32],
     best: &[u64],
     queue: &mut [u32],
     front: usize,
@@ -266,22 +312,26 @@ fn candidates(
     candidate: usize,
     moves: &mut [u32],
     count: usize,
-) -> Queue
-    requires { ⌜ CandidatesAsks l i (now sums) (now best) (now queue) front end candidate count (length (now moves)) ⌝ }
-    ensures { λ r. ⌜ Considered l i (now (sums .entry)) (now (best .entry)) (now (queue .entry)) front end candidate count (now (moves .entry)) r (now (queue .exit)) (now (moves .exit)) ⌝ }
+) -> Rear
+    requires { ⌜ CandidatesAsk (start l p (now ends) (now best)) i (part (now queue) front end) candidate count (length (now moves)) ⌝ }
+    ensures { λ r. ⌜ CandidatesLeave (start l p (now (ends .entry)) (now (best .entry))) i (part (now (queue .entry)) front end) candidate count
+        (now (moves .entry)) r (now (queue .exit)) (now (moves .exit)) ⌝ }
 {
     let mut rear = end;
     let mut j = candidate;
     let mut taken = count;
-    while l.lmin <= line(sums, i, j) {
-        let more = consider(l, i, sums, best, queue, front, rear, j, moves, taken);
+    while i < j {
+        let new = break_of(ends, best, j as u32);
+        if new.end < p.near {
+            break;
+        }
+        let more = consider(l, p, ends, best, queue, front, rear, j, new, moves, taken);
         rear = more.at;
         taken = more.moves;
         j -= 1;
     }
-    Queue {
-        front,
-        end: rear,
+    Rear {
+        at: rear,
         candidate: j,
         moves: taken,
     }
@@ -291,36 +341,47 @@ fn candidates(
 pub fn at_start(
     l: Limits,
     i: usize,
-    sums: &[u32],
+    p: Measure,
+    ends: &[u32],
     best: &[u64],
     queue: &mut [u32],
     q: Queue,
     moves: &mut [u32],
 ) -> Queue
-    requires { ⌜ StartAsks l i (now sums) (now best) (now queue) (q .front) (q .end) (q .candidate) 0 (length (now moves)) ⌝ }
-    ensures { λ r. ⌜ Left l i (now (sums .entry)) (now (best .entry)) (atStart (textIn l (now (sums .entry)) (now (best .entry))) i (record { queue = slice (q .front) (q .end) (now (queue .entry)); candidate = q .candidate })) (now (queue .entry)) 0 (now (moves .entry)) r (now (queue .exit)) (now (moves .exit)) ⌝ }
+    requires { ⌜ StartAsks (start l p (now ends) (now best)) i (now queue) q (length (now moves)) ⌝ }
+    ensures { λ r. ⌜ StartLeaves (start l p (now (ends .entry)) (now (best .entry))) i (stood (now (queue .entry)) q) (q .candidate)
+        (now (moves .entry)) r (now (queue .exit)) (now (moves .exit)) ⌝ }
 {
-    let end = q.end;
-    let long = drop_long(l, i, sums, queue, q.front, end, moves, 0);
-    let front = long.at;
-    let stood = candidates(
+    let long = drop_long(p.far, ends, queue, q.front, q.end, moves, 0);
+    let rear = candidates(
         l,
         i,
-        sums,
+        p,
+        ends,
         best,
         queue,
-        front,
-        end,
+        long.at,
+        q.end,
         q.candidate,
         moves,
         long.moves,
     );
-    let rear = stood.end;
-    let lead = drop_worse(l, i, sums, best, queue, front, rear, moves, stood.moves);
+    let lead = drop_worse(
+        l,
+        p.goal,
+        ends,
+        best,
+        queue,
+        long.at,
+        rear.at,
+        moves,
+        rear.moves,
+    );
     Queue {
         front: lead.at,
-        end: rear,
-        candidate: stood.candidate,
+        end: rear.at,
+        candidate: rear.candidate,
         moves: lead.moves,
+        cost: lead.cost,
     }
 }

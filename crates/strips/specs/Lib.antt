@@ -2,4 +2,5 @@ pub mod Costs
 pub mod Asks
 pub mod Chain
 pub mod Running
+pub mod Single
 pub mod Words

@@ -1,36 +1,81 @@
 -- `queue::add` meets its contract. Assumes nothing.
-use native.Mathlib.Omega.{arith}
 use mathlib.Core.Path.{refl}
-use Rattle.queue.proofs.Adding.{adding-worse, adding-bridged, adding-done}
+use native.Mathlib.Omega.{arith}
+use Rattle.queue.proofs.Adding.{adding-worse, adding-bridged, adding-fits, adding-done}
 use borrow.Author.Needs.{needs}
 use Rattle.queue.proofs.add.Statement.{statement}
 use Rattle.queue.proofs.add.Tie as tie
 
 pop-worse-requires : tie.Need-pop-worse-requires
-pop-worse-requires c κs = adding-worse _ _ _ _ _ _ _ _ _ _ (c .before .before .before .before .before .before .pre)
+pop-worse-requires c κs = adding-worse (c .before .before .before .before .before .before .before .pre)
 
 pop-bridged-requires : tie.Need-pop-bridged-requires
-pop-bridged-requires c κs = adding-bridged _ _ _ _ _ _ _ _ _ _ (c .before .before .before .before .before .before .before .before .before .before .before .pre) _ _ _ (c .before .before .before .before .pop-worse .ensures .within) (omega (arith, c .before .before .before .before .pop-worse .ensures .place)) (omega (arith, c .before .before .before .before .pop-worse .ensures .place, c .before .before .before .before .pop-worse .ensures .ran .count)) (omega (arith, c .before .before .before .before .pop-worse .kept))
+pop-bridged-requires c κs =
+    let first = c .before .before .before .before in
+    adding-bridged (first .before .before .before .before .before .before .before .before .pre) (first .before .before .before .curve .ensures) (first .pop-worse .ensures) (omega (arith, first .pop-worse .kept))
 
-add-t31 : tie.Need-add-t31
-add-t31 c = omega (arith, c .before .before .before .before .before .before .pop-bridged .ensures .ran .count, c .before .before .before .before .before .before .pop-bridged .ensures .place, c .before .before .before .before .before .before .pop-bridged .ensures .within, c .before .before .before .before .before .before .before .before .before .before .before .pop-worse .ensures .ran .count, c .before .before .before .before .before .before .before .before .before .before .before .pop-worse .ensures .place, c .before .before .before .before .before .before .before .before .before .before .before .before .before .before .before .before .before .before .pre .enough, c .before .before .before .before .before .before .before .before .before .before .before .before .before .before .before .before .before .before .good)
+cast-index : tie.Need-cast-index
+cast-index c =
+    let second = c .before .before in
+    let first = second .before .before .before .before .before in
+    let fits = adding-fits (first .before .before .before .before .before .before .before .before .pre) (first .before .before .before .curve .ensures) (first .pop-worse .ensures) (second .pop-bridged .ensures) in
+    omega arith
+
+mul-queue : tie.Need-mul-queue
+mul-queue c =
+    let second = c .before .before in
+    let first = second .before .before .before .before .before in
+    let fits = adding-fits (first .before .before .before .before .before .before .before .before .pre) (first .before .before .before .curve .ensures) (first .pop-worse .ensures) (second .pop-bridged .ensures) in
+    omega arith
+
+slice-write-queue : tie.Need-slice-write-queue
+slice-write-queue c =
+    let second = c .before .before in
+    let first = second .before .before .before .before .before in
+    let fits = adding-fits (first .before .before .before .before .before .before .before .before .pre) (first .before .before .before .curve .ensures) (first .pop-worse .ensures) (second .pop-bridged .ensures) in
+    omega arith
+
+put-requires : tie.Need-put-requires
+put-requires c κs =
+    let second = c .before .before .before in
+    let first = second .before .before .before .before .before in
+    let fits = adding-fits (first .before .before .before .before .before .before .before .before .pre) (first .before .before .before .curve .ensures) (first .pop-worse .ensures) (second .pop-bridged .ensures) in
+    record { place = omega (arith, first .pop-worse .kept, second .pop-bridged .kept); index = fits .index }
+
+add-t26 : tie.Need-add-t26
+add-t26 c =
+    let second = c .before .before .before .before .before .before in
+    let first = second .before .before .before .before .before in
+    let fits = adding-fits (first .before .before .before .before .before .before .before .before .pre) (first .before .before .before .curve .ensures) (first .pop-worse .ensures) (second .pop-bridged .ensures) in
+    omega arith
+
+add-t33 : tie.Need-add-t33
+add-t33 c =
+    let second = c .before .before .before .before .before .before in
+    let first = second .before .before .before .before .before in
+    let fits = adding-fits (first .before .before .before .before .before .before .before .before .pre) (first .before .before .before .curve .ensures) (first .pop-worse .ensures) (second .pop-bridged .ensures) in
+    omega (arith, first .before .before .before .before .before .before .before .before .good)
 
 returns : tie.Need-returns
-returns c = adding-done _ _ _ _ _ _ _ _ _ _ _ _ _ _ _ _ _ _ (c .before .before .before .before .before .before .before .before .before .before .before .before .before .before .before .before .before .before .pre) (c .before .before .before .before .before .before .before .before .before .before .before .pop-worse .ensures) (c .before .before .before .before .before .before .pop-bridged .ensures) refl (c .before .before .put .ensures)
+returns c =
+    let second = c .before .before .before .before .before .before in
+    let first = second .before .before .before .before .before in
+    adding-done (first .before .before .before .before .before .before .before .before .pre) (first .before .before .before .curve .ensures) (first .pop-worse .ensures) (second .pop-bridged .ensures) refl
+    (omega (arith, first .pop-worse .kept, second .pop-bridged .kept)) (c .before .before .put .ensures)
 
 pub add-spec : {M : Type 1} → statement M
 add-spec =
     tie.close
     (tie.spec
+    (λ c κs. search needs)
     pop-worse-requires
     pop-bridged-requires
-    (λ c. search needs)
-    (λ c. search needs)
-    (λ c. search needs)
-    (λ c. search needs)
-    (λ c κs. search needs)
-    (λ c. search needs)
-    add-t31
+    cast-index
+    mul-queue
+    slice-write-queue
+    put-requires
+    add-t26
+    add-t33
     (λ c. search needs)
     (λ c. search needs)
     returns)

@@ -1,42 +1,72 @@
 -- `queue::candidates` meets its contract. Assumes nothing.
 use native.Mathlib.Omega.{arith}
-use Rattle.strips.specs.Running.{running-length}
-use Rattle.queue.proofs.Going.{Going, past, going-first, going-asks, going-more, going-done}
+use borrow.Author.Needs.{needs}
+use Rattle.laws.specs.Part.{part}
+use Rattle.queue.specs.Asks.{start}
+use Rattle.queue.proofs.Trying.{Trying, trying-first, trying-length, trying-index, trying-asks, trying-more, trying-stop, trying-end}
 use Rattle.queue.proofs.candidates.Statement.{statement}
 use Rattle.queue.proofs.candidates.Tie as tie
 
 abbrev Inv-loop : tie.InvT-loop
-Inv-loop l i sums best queue₀ front end candidate moves₀ count rear₀ j₀ taken₀ queue moves rear j taken = Going l i sums best queue₀ front end candidate count moves₀ queue moves rear j taken
+Inv-loop l i p ends best queue₀ front end candidate moves₀ count rear₀ j₀ taken₀ queue moves rear j taken =
+    Trying (start l p ends best) i (part queue₀ front end) candidate count moves₀ queue moves rear j taken
 
 abbrev μ-loop : tie.MeasureT-loop
-μ-loop l i sums best queue₀ front end candidate moves₀ count rear₀ j₀ taken₀ queue moves rear j taken = j
+μ-loop l i p ends best queue₀ front end candidate moves₀ count rear₀ j₀ taken₀ queue moves rear j taken = j
 
 loop-holds : tie.Need-loop-holds Inv-loop μ-loop
-loop-holds c = going-first _ _ _ _ _ _ _ _ _ _ (c .before .before .before .before .pre)
+loop-holds c = trying-first (c .before .before .before .before .pre)
 
-line-requires : tie.Need-line-requires Inv-loop μ-loop
-line-requires c κs = record { first = c .before .before .before .before .before .pre .first; order = c .loop .inv .queued .near; inside = c .loop .inv .queued .within; rising = c .before .before .before .before .before .pre .words .rising }
+cast-break-of : tie.Need-cast-break-of Inv-loop μ-loop
+cast-break-of c =
+    let at = c .before in
+    let asks = at .before .before .before .before .before .pre in
+    omega (arith, trying-index asks (at .loop .inv) (c .loop-test .taken) .within, asks .readable .ends, asks .readable .few)
+
+break-of-requires : tie.Need-break-of-requires Inv-loop μ-loop
+break-of-requires c κs =
+    let at = c .before in
+    let asks = at .before .before .before .before .before .pre in
+    (trying-index asks (at .loop .inv) (c .loop-test .taken), omega (arith, asks .readable .ends, asks .readable .bests))
 
 consider-requires : tie.Need-consider-requires Inv-loop μ-loop
-consider-requires c κs = going-asks _ _ _ _ _ _ _ _ _ _ (c .before .before .before .before .before .before .before .before .before .before .pre) _ _ _ _ _ _ (c .before .before .before .before .before .loop .inv) (c .before .before .before .before .line .ensures) (c .before .before .if1 .taken)
-
-sub-j : tie.Need-sub-j Inv-loop μ-loop
-sub-j c = omega (arith, past _ _ _ _ _ _ _ _ _ _ (c .before .before .before .before .before .before .before .before .before .before .before .before .before .before .before .pre) _ _ _ _ _ _ (c .before .before .before .before .before .before .before .before .before .before .loop .inv) (c .before .before .before .before .before .before .before .before .before .line .ensures) (c .before .before .before .before .before .before .before .if1 .taken))
-
-loop-less : tie.Need-loop-less Inv-loop μ-loop
-loop-less c = omega (arith, past _ _ _ _ _ _ _ _ _ _ (c .before .before .before .before .before .before .before .before .before .before .before .before .before .before .before .pre) _ _ _ _ _ _ (c .before .before .before .before .before .before .before .before .before .before .loop .inv) (c .before .before .before .before .before .before .before .before .before .line .ensures) (c .before .before .before .before .before .before .before .if1 .taken))
+consider-requires c κs =
+    let turn = c .before .before in
+    let at = turn .before .before .before .before .before in
+    trying-asks (at .before .before .before .before .before .pre) (at .loop .inv) (turn .before .before .before .before .loop-test .taken) (turn .before .before .before .break-of .ensures) (turn .if1 .left)
 
 loop-again : tie.Need-loop-again Inv-loop μ-loop
-loop-again c = going-more _ _ _ _ _ _ _ _ _ _ (c .before .before .before .before .before .before .before .before .before .before .before .before .before .before .before .pre) _ _ _ _ _ _ (c .before .before .before .before .before .before .before .before .before .before .loop .inv) (c .before .before .before .before .before .before .before .before .before .line .ensures) (c .before .before .before .before .before .before .before .if1 .taken) _ _ _ _ (c .before .before .before .before .consider .ensures)
+loop-again c =
+    let turn = c .before .before .before .before .before .before .before in
+    let at = turn .before .before .before .before .before in
+    trying-more (at .before .before .before .before .before .pre) (at .loop .inv) (turn .before .before .before .before .loop-test .taken) (turn .before .before .before .break-of .ensures) (turn .if1 .left)
+    (c .before .before .before .before .consider .ensures)
 
 same-length : tie.Need-same-length Inv-loop μ-loop
-same-length c = c .before .before .before .loop .inv .same
+same-length c = c .before .loop .inv .same
 
 same-length-2 : tie.Need-same-length-2 Inv-loop μ-loop
-same-length-2 c = running-length _ _ _ _ _ (c .before .before .before .loop .inv .run)
+same-length-2 c =
+    let at = c .before in
+    trying-length (at .before .before .before .before .before .pre) (at .loop .inv)
 
 returns : tie.Need-returns Inv-loop μ-loop
-returns c = going-done _ _ _ _ _ _ _ _ _ _ (c .before .before .before .before .before .before .before .before .pre) _ _ _ _ _ _ (c .before .before .before .loop .inv) (c .before .before .line .ensures) (c .if1 .left)
+returns c =
+    let at = c .before in
+    trying-end (at .before .before .before .before .before .pre) (at .loop .inv) (c .loop-test .left)
+
+same-length-3 : tie.Need-same-length-3 Inv-loop μ-loop
+same-length-3 c = c .before .before .before .before .before .loop .inv .same
+
+same-length-4 : tie.Need-same-length-4 Inv-loop μ-loop
+same-length-4 c =
+    let at = c .before .before .before .before .before in
+    trying-length (at .before .before .before .before .before .pre) (at .loop .inv)
+
+returns-2 : tie.Need-returns-2 Inv-loop μ-loop
+returns-2 c =
+    let at = c .before .before .before .before .before in
+    trying-stop (at .before .before .before .before .before .pre) (at .loop .inv) (c .before .before .before .before .loop-test .taken) (c .before .before .before .break-of .ensures) (c .if1 .taken)
 
 pub candidates-spec : {M : Type 1} → statement M
 candidates-spec =
@@ -45,11 +75,15 @@ candidates-spec =
     Inv-loop
     μ-loop
     loop-holds
-    line-requires
+    cast-break-of
+    break-of-requires
     consider-requires
-    sub-j
-    loop-less
+    (λ c. search needs)
+    (λ c. search needs)
     loop-again
     same-length
     same-length-2
-    returns)
+    returns
+    same-length-3
+    same-length-4
+    returns-2)

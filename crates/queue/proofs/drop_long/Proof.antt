@@ -1,72 +1,57 @@
 -- `queue::drop_long` meets its contract. Assumes nothing.
-use native.Mathlib.Omega.{arith}
+use Rattle.paper.specs.declared.Kind.the-variants.{Drop}
+use Rattle.queue.proofs.Shedding.{shed-first, shed-put}
+use Rattle.queue.proofs.Dropping.{long-more, long-stop, long-none}
+use Prim.Native.Nat.{_-_}
 use borrow.Author.Needs.{needs}
-use Prim.Native.Nat.{ℕ, _-_}
-use mathlib.Core.List.{List, []}
-use Rattle.paper.specs.QueueRules.{dropLong}
-use Rattle.lines.specs.Held.{textIn}
-use Rattle.strips.specs.Running.{running-length}
-use Rattle.queue.proofs.Ends.{Fronted, fronted-first, fronted-room}
-use Rattle.queue.proofs.Turns.{long-more, long-stop, long-none}
+use Rattle.laws.specs.Part.{part}
+use Rattle.queue.proofs.Dropping.{LongDropping}
 use Rattle.queue.proofs.drop_long.Statement.{statement}
 use Rattle.queue.proofs.drop_long.Tie as tie
 
 abbrev Inv-loop : tie.InvT-loop
-Inv-loop l i sums queue front end moves₀ count at₀ taken₀ moves at taken = (B : List ℕ) → Fronted (dropLong (textIn l sums B) i) queue front end count moves₀ moves at taken
+Inv-loop far ends queue front end moves₀ count at₀ taken₀ moves at taken = LongDropping ends far (part queue front end) count moves₀ moves at taken
 
 abbrev μ-loop : tie.MeasureT-loop
-μ-loop l i sums queue front end moves₀ count at₀ taken₀ moves at taken = end - at
+μ-loop far ends queue front end moves₀ count at₀ taken₀ moves at taken = end - at
 
 loop-holds : tie.Need-loop-holds Inv-loop μ-loop
-loop-holds c = λ B. fronted-first _ _ _ _ _ _ (c .before .before .before .pre .places)
+loop-holds c = shed-first (c .before .before .before .pre)
 
-mul-j : tie.Need-mul-j Inv-loop μ-loop
-mul-j c = omega (arith, c .before .before .before .before .before .pre .places, c .before .before .before .before .before .good)
-
-shared-slice-read-j : tie.Need-shared-slice-read-j Inv-loop μ-loop
-shared-slice-read-j c = omega (arith, c .before .before .before .before .before .before .pre .places)
-
-line-requires : tie.Need-line-requires Inv-loop μ-loop
-line-requires c κs =
-    let e = c .before .before .before .before .before .before .before .pre .each (c .before .before .before .loop .at) (c .before .before .before .loop .inv [] .from) (c .before .before .loop-test .taken) in
-    record {
-      first = e .first;
-      order = omega (arith, e .above, c .wide .ensures);
-      inside = omega (arith, e .within, c .wide .ensures);
-      rising = c .before .before .before .before .before .before .before .pre .rising;
-    }
+end-of-requires : tie.Need-end-of-requires Inv-loop μ-loop
+end-of-requires c κs =
+    let at = c .before .before in
+    at .before .before .before .before .pre .each (at .loop .at) (at .loop .inv .low) (c .before .loop-test .taken)
 
 put-requires : tie.Need-put-requires Inv-loop μ-loop
 put-requires c κs =
-    let e = c .before .before .before .before .before .before .before .before .before .before .before .pre .each (c .before .before .before .before .before .before .before .loop .at) (c .before .before .before .before .before .before .before .loop .inv [] .from) (c .before .before .before .before .before .before .loop-test .taken) in
-    record {
-      place = omega (arith, fronted-room _ _ _ _ _ _ (c .before .before .before .before .before .before .before .before .before .before .before .pre .places) _ _ _ (c .before .before .before .before .before .before .before .loop .inv []) (c .before .before .before .before .before .before .loop-test .taken), running-length _ _ _ _ _ (c .before .before .before .before .before .before .before .loop .inv [] .run));
-      index = omega (arith, e .within, c .before .before .before .before .before .before .before .before .before .before .before .pre .few);
-    }
-
-add-at : tie.Need-add-at Inv-loop μ-loop
-add-at c = omega (arith, c .before .before .before .before .before .before .before .before .before .loop-test .taken, c .before .before .before .before .before .before .before .before .before .before .before .before .before .before .pre .places)
-
-add-taken : tie.Need-add-taken Inv-loop μ-loop
-add-taken c = omega (arith, fronted-room _ _ _ _ _ _ (c .before .before .before .before .before .before .before .before .before .before .before .before .before .before .pre .places) _ _ _ (c .before .before .before .before .before .before .before .before .before .before .loop .inv []) (c .before .before .before .before .before .before .before .before .before .loop-test .taken), running-length _ _ _ _ _ (c .before .before .before .before .before .before .before .before .before .before .loop .inv [] .run), c .before .before .before .before .before .before .before .before .before .before .before .before .before .before .good)
-
-loop-less : tie.Need-loop-less Inv-loop μ-loop
-loop-less c = omega (arith, c .before .before .before .before .before .before .before .before .before .loop-test .taken)
+    let at = c .before .before .before .before .before in
+    let start = at .before .before .before .before in
+    let some = c .before .before .before .before .loop-test .taken in
+    shed-put (start .pre) (at .loop .inv) Drop (at .loop .at) (at .loop .inv .low) some some
 
 loop-again : tie.Need-loop-again Inv-loop μ-loop
-loop-again c = λ B. long-more _ _ _ _ _ _ _ _ _ _ _ _ (c .before .before .before .before .before .before .before .before .before .before .loop .inv B) (c .before .before .before .before .before .before .before .before .before .before .before .before .before .before .pre .places) _ _ _ (c .before .before .before .before .before .before .before .before .before .loop-test .taken) (c .before .before .before .before .before .before .before .wide .ensures) (c .before .before .before .before .before .before .line .ensures) (c .before .before .before .before .if1 .left) (c .before .before .put .ensures)
+loop-again c =
+    let turn = c .before .before .before .before in
+    let at = turn .before .before .before .before in
+    long-more (at .before .before .before .before .pre) (at .loop .inv) (turn .before .before .before .loop-test .taken) (turn .before .end-of .ensures) (turn .if1 .left)
+    (c .before .before .put .ensures)
 
 same-length : tie.Need-same-length Inv-loop μ-loop
-same-length c = running-length _ _ _ _ _ (c .before .loop .inv [] .run)
+same-length c = c .before .loop .inv .same
 
 returns : tie.Need-returns Inv-loop μ-loop
-returns c = λ B. long-none _ _ _ _ _ _ _ _ _ _ _ _ (c .before .loop .inv B) (c .before .before .before .before .before .pre .places) (c .loop-test .left)
+returns c =
+    let at = c .before in
+    long-none (at .before .before .before .before .pre) (at .loop .inv) (c .loop-test .left)
 
 same-length-2 : tie.Need-same-length-2 Inv-loop μ-loop
-same-length-2 c = running-length _ _ _ _ _ (c .before .before .before .before .before .before .loop .inv [] .run)
+same-length-2 c = c .before .before .before .before .loop .inv .same
 
 returns-2 : tie.Need-returns-2 Inv-loop μ-loop
-returns-2 c = λ B. long-stop _ _ _ _ _ _ _ _ _ _ _ _ (c .before .before .before .before .before .before .loop .inv B) (c .before .before .before .before .before .before .before .before .before .before .pre .places) _ _ (c .before .before .before .before .before .loop-test .taken) (c .before .before .before .wide .ensures) (c .before .before .line .ensures) (c .if1 .taken)
+returns-2 c =
+    let at = c .before .before .before .before in
+    long-stop (at .before .before .before .before .pre) (at .loop .inv) (c .before .before .before .loop-test .taken) (c .before .end-of .ensures) (c .if1 .taken)
 
 pub drop-long-spec : {M : Type 1} → statement M
 drop-long-spec =
@@ -75,14 +60,13 @@ drop-long-spec =
     Inv-loop
     μ-loop
     loop-holds
-    mul-j
-    shared-slice-read-j
-    (λ c κs. search needs)
-    line-requires
+    (λ c. search needs)
+    (λ c. search needs)
+    end-of-requires
     put-requires
-    add-at
-    add-taken
-    loop-less
+    (λ c. search needs)
+    (λ c. search needs)
+    (λ c. search needs)
     loop-again
     same-length
     returns

@@ -1,81 +1,79 @@
 -- `queue::pop_bridged` meets its contract. Assumes nothing.
+use Prim.Native.Nat.{_-_}
 use native.Mathlib.Omega.{arith}
-use borrow.Author.Needs.{needs}
-use mathlib.Core.Path.{refl}
 use borrow.Author.Tests.{not-true, not-false}
-use Rattle.paper.specs.QueueRules.{popBridged}
-use Rattle.lines.specs.Held.{textIn}
-use Rattle.strips.specs.Running.{running-length}
-use Rattle.queue.proofs.Ends.{Reared, reared-first, reared-room}
-use Rattle.queue.proofs.Members.{rear-three}
-use Rattle.queue.proofs.Turns.{bridge-more, bridge-stop, bridge-none}
+use Rattle.paper.specs.declared.Kind.the-variants.{Pop}
+use Rattle.queue.proofs.Shedding.{shed-first, shed-room, shed-put}
+use Rattle.queue.proofs.Popping.{bridge-three, bridge-more, bridge-stop, bridge-none}
+use borrow.Author.Needs.{needs}
+use Rattle.laws.specs.Part.{part}
+use Rattle.queue.proofs.Popping.{BridgedPopping}
 use Rattle.queue.proofs.pop_bridged.Statement.{statement}
 use Rattle.queue.proofs.pop_bridged.Tie as tie
 
 abbrev Inv-loop : tie.InvT-loop
-Inv-loop l sums best queue front end j moves₀ count at₀ taken₀ moves at taken = Reared (popBridged (textIn l sums best) j) queue front end count moves₀ moves at taken
+Inv-loop l ends best queue front end new moves₀ count at₀ taken₀ moves at taken = BridgedPopping l ends best new (part queue front end) count moves₀ moves at taken
 
 abbrev μ-loop : tie.MeasureT-loop
-μ-loop l sums best queue front end j moves₀ count at₀ taken₀ moves at taken = at
+μ-loop l ends best queue front end new moves₀ count at₀ taken₀ moves at taken = at
 
 loop-holds : tie.Need-loop-holds Inv-loop μ-loop
-loop-holds c = reared-first _ _ _ _ _ _ (c .before .before .before .before .pre .places)
+loop-holds c = shed-first (c .before .before .before .before .pre .shed)
 
-add-loop : tie.Need-add-loop Inv-loop μ-loop
-add-loop c = omega (arith, c .before .before .before .before .before .pre .places)
+break-of-requires : tie.Need-break-of-requires Inv-loop μ-loop
+break-of-requires c κs =
+    let at = c .before .before .before in
+    let asks = at .before .before .before .before .before .pre in
+    let more = c .before .before .loop-test .taken in
+    (asks .shed .each (at .loop .at - 1) (omega arith) (omega (arith, at .loop .inv .high)), asks .same)
 
-sub-k : tie.Need-sub-k Inv-loop μ-loop
-sub-k c = omega (arith, c .loop-test .taken)
-
-mul-k : tie.Need-mul-k Inv-loop μ-loop
-mul-k c = omega (arith, c .loop-test .taken, c .before .loop .inv .within, c .before .before .before .before .before .before .pre .places, c .before .before .before .before .before .before .good)
-
-shared-slice-read-k : tie.Need-shared-slice-read-k Inv-loop μ-loop
-shared-slice-read-k c = omega (arith, c .before .loop-test .taken, c .before .before .loop .inv .within, c .before .before .before .before .before .before .before .pre .places)
-
-sub-n : tie.Need-sub-n Inv-loop μ-loop
-sub-n c = omega (arith, c .before .loop-test .taken)
-
-mul-n : tie.Need-mul-n Inv-loop μ-loop
-mul-n c = omega (arith, c .before .loop-test .taken, c .before .before .loop .inv .within, c .before .before .before .before .before .before .before .pre .places, c .before .before .before .before .before .before .before .good)
-
-shared-slice-read-n : tie.Need-shared-slice-read-n Inv-loop μ-loop
-shared-slice-read-n c = omega (arith, c .before .before .loop-test .taken, c .before .before .before .loop .inv .within, c .before .before .before .before .before .before .before .before .pre .places)
+break-of-requires-2 : tie.Need-break-of-requires-2 Inv-loop μ-loop
+break-of-requires-2 c κs =
+    let at = c .before .before .before .before in
+    let asks = at .before .before .before .before .before .pre in
+    let more = c .before .before .before .loop-test .taken in
+    (asks .shed .each (at .loop .at - 2) (omega arith) (omega (arith, at .loop .inv .high)), asks .same)
 
 bridged-requires : tie.Need-bridged-requires Inv-loop μ-loop
-bridged-requires c κs = rear-three _ _ _ _ _ _ _ _ _ _ _ _ (c .before .before .before .before .before .before .before .before .before .before .pre) (c .before .before .before .before .loop-test .taken) (c .before .before .before .before .before .loop .inv .within) (c .before .wide .ensures) (c .wide2 .ensures)
+bridged-requires c κs =
+    let at = c .before .before .before .before .before in
+    bridge-three (at .before .before .before .before .before .pre) (at .loop .inv) (c .before .before .before .before .loop-test .taken) (c .before .break-of .ensures) (c .break-of2 .ensures)
 
 put-requires : tie.Need-put-requires Inv-loop μ-loop
 put-requires c κs =
-    let e = rear-three _ _ _ _ _ _ _ _ _ _ _ _ (c .before .before .before .before .before .before .before .before .before .before .before .before .before .pre) (c .before .before .before .before .before .before .before .loop-test .taken) (c .before .before .before .before .before .before .before .before .loop .inv .within) refl refl in
-    record {
-      place = omega (arith, reared-room _ _ _ _ _ _ (c .before .before .before .before .before .before .before .before .before .before .before .before .before .pre .places) _ _ _ (c .before .before .before .before .before .before .before .before .loop .inv) (omega (arith, c .before .before .before .before .before .before .before .loop-test .taken)), running-length _ _ _ _ _ (c .before .before .before .before .before .before .before .before .loop .inv .run));
-      index = omega (arith, e .kn, e .inside, c .before .before .before .before .before .before .before .before .before .before .before .before .before .pre .few);
-    }
-
-sub-at : tie.Need-sub-at Inv-loop μ-loop
-sub-at c = omega (arith, c .before .before .before .before .before .before .before .before .before .before .loop-test .taken)
+    let at = c .before .before .before .before .before .before .before .before in
+    let more = c .before .before .before .before .before .before .before .loop-test .taken in
+    shed-put (at .before .before .before .before .before .pre .shed) (at .loop .inv) Pop (at .loop .at - 1) (omega arith) (omega (arith, at .loop .inv .high)) (omega arith)
 
 add-taken : tie.Need-add-taken Inv-loop μ-loop
-add-taken c = omega (arith, reared-room _ _ _ _ _ _ (c .before .before .before .before .before .before .before .before .before .before .before .before .before .before .before .before .pre .places) _ _ _ (c .before .before .before .before .before .before .before .before .before .before .before .loop .inv) (omega (arith, c .before .before .before .before .before .before .before .before .before .before .loop-test .taken)), running-length _ _ _ _ _ (c .before .before .before .before .before .before .before .before .before .before .before .loop .inv .run), c .before .before .before .before .before .before .before .before .before .before .before .before .before .before .before .before .good)
-
-loop-less : tie.Need-loop-less Inv-loop μ-loop
-loop-less c = omega (arith, c .before .before .before .before .before .before .before .before .before .before .loop-test .taken)
+add-taken c =
+    let at = c .before .before .before .before .before .before .before .before .before .before .before in
+    let more = c .before .before .before .before .before .before .before .before .before .before .loop-test .taken in
+    omega (arith, shed-room (at .before .before .before .before .before .pre .shed) (at .loop .inv) (omega arith), at .loop .inv .same, at .before .before .before .before .before .good)
 
 loop-again : tie.Need-loop-again Inv-loop μ-loop
-loop-again c = bridge-more _ _ _ _ _ _ _ _ _ _ _ _ (c .before .before .before .before .before .before .before .before .before .before .before .loop .inv) (c .before .before .before .before .before .before .before .before .before .before .before .before .before .before .before .before .pre .places) _ _ _ _ (c .before .before .before .before .before .before .before .before .before .before .loop-test .taken) (c .before .before .before .before .before .before .before .wide .ensures) (c .before .before .before .before .before .before .wide2 .ensures) (c .before .before .before .before .before .bridged .ensures) (not-false (c .before .before .before .before .before .bridged .result) (c .before .before .before .before .if1 .left)) (c .before .before .put .ensures)
+loop-again c =
+    let turn = c .before .before .before .before in
+    let at = turn .before .before .before .before .before .before .before in
+    bridge-more (at .before .before .before .before .before .pre) (at .loop .inv) (turn .before .before .before .before .before .before .loop-test .taken) (turn .before .before .before .break-of .ensures) (turn .before .before .break-of2 .ensures)
+    (turn .before .bridged .ensures) (not-false (turn .before .bridged .result) (turn .if1 .left)) (c .before .before .put .ensures)
 
 same-length : tie.Need-same-length Inv-loop μ-loop
-same-length c = running-length _ _ _ _ _ (c .before .loop .inv .run)
+same-length c = c .before .loop .inv .same
 
 returns : tie.Need-returns Inv-loop μ-loop
-returns c = bridge-none _ _ _ _ _ _ _ _ _ _ _ _ (c .before .loop .inv) (c .before .before .before .before .before .before .pre .places) (c .loop-test .left)
+returns c =
+    let at = c .before in
+    bridge-none (at .before .before .before .before .before .pre) (at .loop .inv) (c .loop-test .left)
 
 same-length-2 : tie.Need-same-length-2 Inv-loop μ-loop
-same-length-2 c = running-length _ _ _ _ _ (c .before .before .before .before .before .before .before .loop .inv .run)
+same-length-2 c = c .before .before .before .before .before .before .before .loop .inv .same
 
 returns-2 : tie.Need-returns-2 Inv-loop μ-loop
-returns-2 c = bridge-stop _ _ _ _ _ _ _ _ _ _ _ _ (c .before .before .before .before .before .before .before .loop .inv) (c .before .before .before .before .before .before .before .before .before .before .before .before .pre .places) _ _ _ (c .before .before .before .before .before .before .loop-test .taken) (c .before .before .before .wide .ensures) (c .before .before .wide2 .ensures) (c .before .bridged .ensures) (not-true (c .before .bridged .result) (c .if1 .taken))
+returns-2 c =
+    let at = c .before .before .before .before .before .before .before in
+    bridge-stop (at .before .before .before .before .before .pre) (at .loop .inv) (c .before .before .before .before .before .before .loop-test .taken) (c .before .before .before .break-of .ensures) (c .before .before .break-of2 .ensures)
+    (c .before .bridged .ensures) (not-true (c .before .bridged .result) (c .if1 .taken))
 
 pub pop-bridged-spec : {M : Type 1} → statement M
 pop-bridged-spec =
@@ -84,20 +82,20 @@ pop-bridged-spec =
     Inv-loop
     μ-loop
     loop-holds
-    add-loop
-    sub-k
-    mul-k
-    shared-slice-read-k
-    sub-n
-    mul-n
-    shared-slice-read-n
-    (λ c κs. search needs)
-    (λ c κs. search needs)
+    (λ c. search needs)
+    (λ c. search needs)
+    (λ c. search needs)
+    (λ c. search needs)
+    (λ c. search needs)
+    (λ c. search needs)
+    (λ c. search needs)
+    break-of-requires
+    break-of-requires-2
     bridged-requires
     put-requires
-    sub-at
+    (λ c. search needs)
     add-taken
-    loop-less
+    (λ c. search needs)
     loop-again
     same-length
     returns

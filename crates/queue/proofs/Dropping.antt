@@ -1,0 +1,115 @@
+-- Rules 1 and 3, one turn of each, in the values that the code has at hand. Assumes nothing.
+use Prim.Native.Nat.{ℕ, _+_, _-_, _^_, _≤_, _<_}
+use mathlib.Core.Path.{_≡_, _∙_}
+use mathlib.Core.List.{List, _∷_}
+use native.Mathlib.Omega.{arith}
+use lib.ListN.{length, getD, set}
+use lib.Seq.{slice}
+use Rattle.laws.specs.Part.{Part, part, listed, part-front, part-none}
+use Rattle.paper.specs.declared.Limits.{Limits}
+use Rattle.paper.specs.declared.Kind.the-variants.{Drop}
+use Rattle.paper.specs.Moves.{code, move}
+use Rattle.paper.specs.QueueRules.{F, dropLong, dropWorse}
+use Rattle.paper.specs.Strips.{bestEntry}
+use Rattle.queue_theory.specs.Turns.{dropLong-more, dropLong-stop, dropWorse-more, dropWorse-stop}
+use Rattle.lines.specs.Held.{breakIn, costAt}
+use Rattle.lines.specs.Asks.{Indexed, Through}
+use Rattle.queue.specs.Asks.{ShedAsks, LongAt, LongDropped, CostsAt, WorseDropped}
+use Rattle.queue.proofs.Shedding.{Shedding, shed-first, shed-front, shed-done}
+
+-- ---- rule 1: the front has come to place r, and x is where a line to it ends
+abbrev pub LongDropping : List ℕ → ℕ → Part → ℕ → List ℕ → List ℕ → ℕ → ℕ → Type 0
+LongDropping E far q t m₀ m r u =
+    Shedding (λ (y : LongAt E far q) (p : Part). dropLong (y .text) (y .start) (listed p)) q (part (q .strip) r (q .to)) t m₀ m u
+
+module _ {E : List ℕ} {far : ℕ} {q : Part} {t : ℕ} {m₀ m : List ℕ} {r u : ℕ}
+    (asks : ShedAsks (Indexed E) q t (length m₀)) (inv : LongDropping E far q t m₀ m r u) where
+  pub long-more : {x : ℕ} {n : List ℕ} → r < q .to → x ≡ getD E (getD (q .strip) r 0 - 1) 0 → far < x →
+      n ≡ set m u (code (move Drop (getD (q .strip) r 0))) → LongDropping E far q t m₀ n (r + 1) (u + 1)
+  long-more some is long put =
+      shed-front asks inv some put (λ y.
+      rw (part-front (q .strip) (asks .standing) some)
+      (dropLong-more (y .text) (y .start) (getD (q .strip) r 0) (slice (r + 1) (q .to) (q .strip))
+      (y .each r (inv .low) some .long (rw is at long))))
+
+  pub long-stop : {x : ℕ} → r < q .to → x ≡ getD E (getD (q .strip) r 0 - 1) 0 → x ≤ far →
+      LongDropped E far q t m₀ m (record { at = r; moves = u })
+  long-stop some is short = record {
+    dropped = shed-done asks inv (λ y.
+        rw (part-front (q .strip) (asks .standing) some)
+        (dropLong-stop (y .text) (y .start) (getD (q .strip) r 0) (slice (r + 1) (q .to) (q .strip))
+        (y .each r (inv .low) some .short (rw is at short))));
+    short = λ h. rw is at short;
+  }
+
+  pub long-none : q .to ≤ r → LongDropped E far q t m₀ m (record { at = r; moves = u })
+  unfolding dropLong
+  long-none none = record {
+    dropped = shed-done asks inv (λ y. rw (part-none (q .strip) (asks .standing) none));
+    short = λ h. absurd (omega arith);
+  }
+
+-- ---- rule 3: the front has come to place r, and costs `cost`
+abbrev WorseDropping : Limits → ℕ → List ℕ → List ℕ → Part → ℕ → List ℕ → List ℕ → ℕ → ℕ → Type 0
+WorseDropping l goal E B q t m₀ m r u =
+    Shedding (λ (y : CostsAt l goal E B q) (p : Part). dropWorse (y .text) (y .start) (listed p)) q (part (q .strip) r (q .to)) t m₀ m u
+
+pub record Leading (l : Limits) (goal : ℕ) (E B : List ℕ) (q : Part) (t : ℕ) (m₀ m : List ℕ) (r u cost : ℕ) : Type 0 where
+  pub shed : WorseDropping l goal E B q t m₀ m r u
+  pub some : r < q .to
+  pub is : cost ≡ costAt l goal (breakIn E B (getD (q .strip) r 0))
+
+module _ {l : Limits} {goal : ℕ} {E B : List ℕ} {q : Part} {t : ℕ} {m₀ : List ℕ} (asks : ShedAsks (Through l goal E B) q t (length m₀)) where
+  pub lead-first : {cost : ℕ} → q .from < q .to → cost ≡ costAt l goal (breakIn E B (getD (q .strip) (q .from) 0)) →
+      Leading l goal E B q t m₀ m₀ (q .from) t cost
+  lead-first some is = record { shed = shed-first asks; some = some; is = is }
+
+  -- with an empty queue there is no setting
+  pub lead-empty : q .to ≤ q .from → WorseDropped l goal E B q t m₀ m₀ (record { at = q .from; cost = 2 ^ 64 - 1; moves = t })
+  unfolding dropWorse bestEntry
+  lead-empty none =
+      let e = part-none (q .strip) (asks .standing) none in
+      let all : WorseDropping l goal E B q t m₀ m₀ (q .from) t = shed-first asks in
+      record { dropped = shed-done asks all (λ y. rw e); cost = λ y. rw e }
+
+  module _ {m : List ℕ} {r u cost : ℕ} (inv : Leading l goal E B q t m₀ m r u cost) where
+    first : slice r (q .to) (q .strip) ≡ getD (q .strip) r 0 ∷ slice (r + 1) (q .to) (q .strip)
+    first = part-front (q .strip) (asks .standing) (inv .some)
+
+    two : r + 1 < q .to → slice r (q .to) (q .strip) ≡ getD (q .strip) r 0 ∷ getD (q .strip) (r + 1) 0 ∷ slice (r + 1 + 1) (q .to) (q .strip)
+    two more = rw (first, part-front (q .strip) (asks .standing) more)
+
+    front-cost : (y : CostsAt l goal E B q) → cost ≡ F (y .text) (y .start) (getD (q .strip) r 0)
+    front-cost y = inv .is ∙ y .each r (inv .shed .low) (inv .some)
+
+    module _ {second : ℕ} (more : r + 1 < q .to) (is : second ≡ costAt l goal (breakIn E B (getD (q .strip) (r + 1) 0))) where
+      second-cost : (y : CostsAt l goal E B q) → second ≡ F (y .text) (y .start) (getD (q .strip) (r + 1) 0)
+      second-cost y = is ∙ y .each (r + 1) (omega (arith, inv .shed .low)) more
+
+      pub lead-more : {n : List ℕ} → second ≤ cost → n ≡ set m u (code (move Drop (getD (q .strip) r 0))) →
+          Leading l goal E B q t m₀ n (r + 1) (u + 1) second
+      lead-more le put = record {
+        shed = shed-front asks (inv .shed) (inv .some) put (λ y.
+            rw (two more, part-front (q .strip) (asks .standing) more)
+            (dropWorse-more (y .text) (y .start) (getD (q .strip) r 0) (getD (q .strip) (r + 1) 0) (slice (r + 1 + 1) (q .to) (q .strip))
+            (rw (front-cost y, second-cost y) at le)));
+        some = more;
+        is = is;
+      }
+
+      pub lead-stop : cost < second → WorseDropped l goal E B q t m₀ m (record { at = r; cost = cost; moves = u })
+      unfolding bestEntry
+      lead-stop lt = record {
+        dropped = shed-done asks (inv .shed) (λ y.
+            rw (two more)
+            (dropWorse-stop (y .text) (y .start) (getD (q .strip) r 0) (getD (q .strip) (r + 1) 0) (slice (r + 1 + 1) (q .to) (q .strip))
+            (rw (front-cost y, second-cost y) at lt)));
+        cost = λ y. rw first (front-cost y);
+      }
+
+    pub lead-none : q .to ≤ r + 1 → WorseDropped l goal E B q t m₀ m (record { at = r; cost = cost; moves = u })
+    unfolding dropWorse bestEntry
+    lead-none none = record {
+      dropped = shed-done asks (inv .shed) (λ y. rw (first, part-none (q .strip) (asks .standing) none));
+      cost = λ y. rw first (front-cost y);
+    }
