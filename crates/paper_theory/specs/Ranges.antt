@@ -3,7 +3,8 @@ use Prim.Native.Nat.{_≤_, _<_}
 use lib.Dec.{T, leb, ltb, leb→le, ltb→lt}
 use Rattle.laws.specs.Number.{both}
 use Rattle.paper.specs.declared.Limits.{Limits}
-use Rattle.paper.specs.Allowed.{limitsHold}
+use Rattle.paper.specs.declared.PageLimits.{PageLimits}
+use Rattle.paper.specs.Allowed.{limitsHold, pageLimitsHold}
 
 -- the limits' ranges, as orders
 pub record Ranges (l : Limits) : Type 0 where
@@ -33,3 +34,13 @@ ranges l t =
       a-low = leb→le 1 (l .a) (b6 .0);
       a-high = leb→le (l .a) 15 (b6 .1);
     }
+
+pub record PageRanges (l : PageLimits) : Type 0 where
+  pub apart : l .lmin < l .lmax
+  pub lmax-high : l .lmax ≤ 65535
+
+pub page-ranges : (l : PageLimits) → T (pageLimitsHold l) → PageRanges l
+unfolding pageLimitsHold
+page-ranges l t =
+    let b = both (ltb (l .lmin) (l .lmax)) (leb (l .lmax) 65535) t in
+    record { apart = ltb→lt (l .lmin) (l .lmax) (b .0); lmax-high = leb→le (l .lmax) 65535 (b .1) }

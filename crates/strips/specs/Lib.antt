@@ -4,3 +4,4 @@ pub mod Chain
 pub mod Running
 pub mod Single
 pub mod Words
+pub mod Filling
