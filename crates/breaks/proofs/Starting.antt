@@ -121,7 +121,7 @@ module _ {l : Limits} {S m₀ Q B N m : List ℕ} {q : Queue} {i : ℕ} (s : Sta
           candidate = ap (λ (z : Standing). z .candidate) (s .stands)
 
       module _ (r : Queue) (Q′ n : List ℕ)
-          (leaves : StartLeaves (start l p S B) i Q q (take (length m - q .moves) (drop (q .moves) m)) r Q′ n) where
+          (leaves : StartLeaves (start l p S B) i (stood Q q) (q .candidate) (take (length m - q .moves) (drop (q .moves) m)) r Q′ n) where
         text : Text
         text = textIn l S B (begins l p)
 
