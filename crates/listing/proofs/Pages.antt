@@ -16,7 +16,7 @@ use Rattle.paper.specs.declared.Checked.the-variants.{Accept, Refuse}
 use Rattle.paper.specs.Allowed.{pageLimitsHold, Passed}
 use Rattle.paper.specs.Index.{index, best, boundaries}
 use Rattle.paper.specs.PointerRules.{pointerMoves}
-use Rattle.paper_theory.specs.Right.{index-right}
+use Rattle.paper_theory.specs.Cheapest.{index-cheapest}
 use Rattle.paper.specs.Told.{told, checked}
 use Rattle.paper.specs.Strips.{IndexStrips, indexStrips, IndexOutcome, indexHas, indexNeeds, indexWritten, indexSet, indexChecked, indexOutcome}
 use Rattle.refusals.specs.Accepted.{accepted}
@@ -119,7 +119,7 @@ module _ (l : PageLimits) (ws : List ℕ) (s : IndexStrips) where
             refl
 
         setting : Admissible (index l ws) 0 (boundaries l ws)
-        setting = index-right l ws total (given .cost) .1 .admissible
+        setting = index-cheapest l ws total (given .cost) .1 .admissible
 
         few-boundaries : length (boundaries l ws) ≤ length ws
         unfolding index

@@ -12,7 +12,7 @@ use Rattle.paper.specs.declared.Answer.{Answer}
 use Rattle.paper.specs.declared.Answer.the-variants.{Set}
 use Rattle.paper_theory.specs.Ranges.{ranges}
 use Rattle.paper.specs.Paragraph.{end, paragraph, breaks}
-use Rattle.paper_theory.specs.Right.{paragraph-right}
+use Rattle.paper_theory.specs.Cheapest.{paragraph-cheapest}
 use Rattle.paper.specs.Strips.{sums, ParagraphStrips, paragraphStrips, paragraphOutcome}
 use Rattle.paper.specs.Told.{told}
 use Rattle.setter.specs.Promise.{ParagraphPromise}
@@ -57,7 +57,7 @@ module _ (l : Limits) (ws : List ℕ) (s : ParagraphStrips) (lent : Lent s) (a :
 
     setting : (js : List ℕ) × (breaks l ws ≡ 1 ∷ js) × Admissible (paragraph l ws) 1 js
     setting =
-        let r = paragraph-right l ws (ranges l (given .passed .limits) .lopt-high) (given .passed .words) total (given .cost) in
+        let r = paragraph-cheapest l ws (ranges l (given .passed .limits) .lopt-high) (given .passed .words) total (given .cost) in
         (r .0, r .1, r .3 .admissible)
 
     few-lines : length (breaks l ws) ≤ length ws

@@ -17,7 +17,7 @@ use Rattle.paper_theory.specs.Scale.{length-holds}
 use Rattle.paper_theory.specs.Bound.{admissible-lmax, charge-bound, paragraph-bound, index-bound}
 use Rattle.paper.specs.QueueRules.{queueMoves}
 use Rattle.paper.specs.PointerRules.{pointerMoves}
-use Rattle.paper_theory.specs.Right.{paragraph-right, index-right}
+use Rattle.paper_theory.specs.Cheapest.{paragraph-cheapest, index-cheapest}
 use Rattle.queue_theory.specs.Count.{at-most-2n}
 use Rattle.pointer_theory.specs.Count.{pointer-count}
 use Rattle.rows.specs.Rows.{ascii, digits}
@@ -88,7 +88,7 @@ module _ (l : Limits) (ws : List ℕ) (passed : Passed (limitsHold l) ws) where
   unfolding paragraphRows paragraph
   paragraph-size total e =
       let r = ranges l (passed .limits) in
-      let right = paragraph-right l ws (r .lopt-high) (passed .words) total e in
+      let right = paragraph-cheapest l ws (r .lopt-high) (passed .words) total e in
       let a : Admissible (paragraph l ws) 1 (right .0) = right .3 .admissible in
       let n : 1 + length (right .0) < end ws = setting-count (paragraph l ws) 1 (right .0) a in
       let b : breaks l ws ≡ 1 ∷ right .0 = right .1 in
@@ -127,7 +127,7 @@ module _ (l : PageLimits) (ws : List ℕ) (passed : Passed (pageLimitsHold l) ws
   pub index-size : (total : ℕ) → Index.best l ws 0 ≡ some total → length (indexRows ws (boundaries l ws) total (length (pointerMoves l ws))) ≤ mostBytes
   unfolding indexRows index
   index-size total e =
-      let a : Admissible (index l ws) 0 (boundaries l ws) = index-right l ws total e .1 .admissible in
+      let a : Admissible (index l ws) 0 (boundaries l ws) = index-cheapest l ws total e .1 .admissible in
       let n : 0 + length (boundaries l ws) < end ws = setting-count (index l ws) 0 (boundaries l ws) a in
       let t : total < 2 ^ 25 = index-bound l ws (passed .lengths) (passed .few) 0 total (omega arith) e in
       omega (

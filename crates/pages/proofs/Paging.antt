@@ -13,7 +13,7 @@ use Rattle.paper.specs.declared.Answer.the-variants.{Set, None}
 use Rattle.paper.specs.Paragraph.{end}
 use Rattle.paper.specs.Index as Index
 use Rattle.paper.specs.Index.{index}
-use Rattle.paper_theory.specs.Right.{chosen-index}
+use Rattle.paper_theory.specs.Cheapest.{chosen-index}
 use Rattle.paper.specs.Strips.{entries, bestEntry, IndexStrips, indexWritten, indexSet}
 use Rattle.paper_theory.specs.Entries.{length-entries, getD-entries}
 use Rattle.pointer_theory.specs.Numbers.{best-none}

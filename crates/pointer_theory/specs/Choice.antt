@@ -18,7 +18,7 @@ use Rattle.laws.specs.Pointer.{Cheaper, Left, Chosen, placed-chosen, cheaper-ne
 use Rattle.paper.specs.declared.PageLimits.{PageLimits}
 use Rattle.paper.specs.Index as Index
 use Rattle.paper.specs.Index.{gap, page, item, index}
-use Rattle.paper_theory.specs.Right.{index-sums, chosen-index}
+use Rattle.paper_theory.specs.Cheapest.{index-sums, chosen-index}
 use Rattle.paper.specs.PointerRules.{pagesOf, entryAt, Pointing, pointed, linked, atStart, afterStarts, pointerAt, chooser}
 use Rattle.pointer_theory.specs.Turns.{true-not-false}
 use Rattle.pointer_theory.specs.Ready.{taken, gap-grows, Ready, Pointed, ready-pointed, ready-at}
