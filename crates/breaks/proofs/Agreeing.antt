@@ -24,16 +24,10 @@ use Rattle.queue_theory.specs.Agree.{Agrees, atStart-same, taken-same}
 use Rattle.queue_theory.specs.Paragraph.{scaled, size, start-takes}
 use Rattle.queue_theory.specs.Ready.{Measured, stood-before, stood-after}
 use Rattle.strips.specs.Costs.{costOf, entry-back}
-use Rattle.strips.specs.Filling.{Entered}
-use Rattle.strips.specs.Words.{wordsOf, Holds, holds-length, holds-entry}
+use Rattle.strips.specs.Words.{wordsOf, holds-length, holds-entry}
 use Rattle.lines.specs.Held.{span, textIn}
 use Rattle.queue.specs.Asks.{Known}
-use Rattle.breaks.specs.Asks.{bestAt}
-
--- the best strip holds the bests of the starts after i
-pub record Done (l : Limits) (S B : List ℕ) (i : ℕ) : Type 0 where
-  pub holds : Holds (limitsHold l) S
-  pub bests : Entered (bestAt l (wordsOf S)) 1 (length (wordsOf S)) (i + 1) B
+use Rattle.breaks.specs.Asks.{bestAt, Done}
 
 -- the text that the strips hold at start i
 abbrev pub textHeld : Limits → List ℕ → List ℕ → ℕ → Text
@@ -127,7 +121,8 @@ module _ (l : Limits) (S B : List ℕ) (i : ℕ) (d : Done l S B i) where
       unfolding textIn queueAt textOf lines from
       held-rules s e =
           subst (λ (z : Standing). atStart (textHeld l S B i) i z ≡ queueAt (textOf l ws) (length ws) i) e
-          (atStart-same (scaled l ws (d .holds .passed)) (length S) (λ j. 0) first agrees (afterStarts (textOf l ws) (length ws) (length ws - i) .stands)
+          (atStart-same (scaled l ws (d .holds .passed)) (length S) (λ j. 0) first agrees
+          (afterStarts (textOf l ws) (length ws) (length ws - i) .stands)
           (stood-before (scaled l ws (d .holds .passed)) (length ws) (size l ws (d .holds .passed)) i early))
 
       -- and what it takes is its best and its chosen next
@@ -136,7 +131,8 @@ module _ (l : Limits) (S B : List ℕ) (i : ℕ) (d : Done l S B i) where
       unfolding textIn textOf lines from
       held-takes q e =
           let passed = d .holds .passed in
-          let live = subst (Every (Measured (textOf l ws) i)) e (stood-after (scaled l ws passed) (length ws) (size l ws passed) i first early .held .live) in
+          let live = subst (Every (Measured (textOf l ws) i)) e
+          (stood-after (scaled l ws passed) (length ws) (size l ws passed) i first early .held .live) in
           let same = taken-same (scaled l ws passed) (length S) (λ j. 0) first agrees (omega arith) held-size q live in
           let takes = start-takes l ws passed i first early in
           (same .0 ∙ rw e at (takes .0), same .1 ∙ rw e at (takes .1))

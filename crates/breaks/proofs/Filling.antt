@@ -37,7 +37,8 @@ module _ {l : Limits} {ws S₀ B₀ N₀ Q₀ m₀ S : List ℕ} (a : FillAsks l
         moves = omega (arith, a .moves);
       })
 
-  module _ (Q : List ℕ) {B N m : List ℕ} {count : ℕ} (st : Starts l (take (n + 1) S) m₀ count B N m) (kept : length Q ≡ length (take n Q₀)) where
+  module _ (Q : List ℕ) {B N m : List ℕ} {count : ℕ} (st : Starts l (take (n + 1) S) m₀ count B N m)
+      (kept : length Q ≡ length (take n Q₀)) where
     started : SetStarts l ws m₀ count B N m
     started = rw (exact, words-of-sums ws) at st
 

@@ -31,7 +31,8 @@ module _ {l : Limits} {ws : List ℕ} {s : ParagraphStrips} {S B N Q m : List �
 
   -- the first entry is the best of start 1
   first-best : getD B 0 0 ≡ bestAt l ws 1
-  first-best = entry-read (bestAt l ws) 1 (n + 1) [] (bests l ws) (s .best) B (f .best) (sym (append-nil (bests l ws))) 1 0 refl (omega arith)
+  first-best = entry-read (bestAt l ws) 1 (n + 1) [] (bests l ws) (s .best) B (f .best) (sym (append-nil (bests l ws))) 1 0 refl
+      (omega arith)
 
   number : (v : ℕ) → best l ws 1 ≡ some v → v < 2 ^ 64 - 1
   number v e = omega (arith, paragraph-bound l limits ws (a .fill .passed .few) 1 v (omega arith) (omega arith) e)
@@ -54,7 +55,8 @@ module _ {l : Limits} {ws : List ℕ} {s : ParagraphStrips} {S B N Q m : List �
       total = entry-some (best l ws 1) x (e ∙ first-best) h
 
       held : (k : ℕ) → 1 ≤ k → k ≤ n → nextIn N 1 k ≡ chosenNext l ws k
-      held k low high = entry-read (chosenNext l ws) 1 n (0 ∷ []) (nexts l ws) (s .next) N (f .next) refl k (k - 1) (omega arith) (omega arith)
+      held k low high = entry-read (chosenNext l ws) 1 n (0 ∷ []) (nexts l ws) (s .next) N (f .next) refl k (k - 1) (omega arith)
+          (omega arith)
 
       leads : Leads N 1 n 1
       unfolding best chosenNext lines settings Lines.best

@@ -26,13 +26,9 @@ use Rattle.lines.specs.Asks.{Beginning, Placed}
 use Rattle.queue.specs.declared.Queue.{Queue}
 use Rattle.queue.specs.Asks.{start, stood, Queued, StartAsks, StartLeaves}
 use Rattle.queue.specs.Next.{queued-map}
-use Rattle.breaks.specs.Asks.{bestAt, SettleAsks, Settles}
-use Rattle.breaks.proofs.Agreeing.{Done, held-ranges, held-bests, held-place, held-known, held-rules, held-takes}
+use Rattle.breaks.specs.Asks.{bestAt, soFar, Done, SettleAsks, Settles}
+use Rattle.breaks.proofs.Agreeing.{held-ranges, held-bests, held-place, held-known, held-rules, held-takes}
 use Rattle.breaks.proofs.Taking.{taken-numbers}
-
--- the moves of all starts down to i + 1, and what stands then
-abbrev pub soFar : Limits → List ℕ → ℕ → Taken Standing
-soFar l ws i = afterStarts (textOf l ws) (length ws) (length ws - i)
 
 -- where the queue stands in its strip
 abbrev pub standsIn : List ℕ → Queue → Standing
@@ -108,10 +104,12 @@ module _ {l : Limits} {S m₀ Q B N m : List ℕ} {q : Queue} {i : ℕ} (s : Sta
         }) (s .queued);
         first = first;
         near = omega (arith, s .near);
-        enough = rw (lent-is m (q .moves), length-drop (q .moves) m) (omega (arith, count, stand, candidate, s .count, s .near, started-length));
+        enough = rw (lent-is m (q .moves), length-drop (q .moves) m)
+            (omega (arith, count, stand, candidate, s .count, s .near, started-length));
       }
         where
-          count : length (soFar l ws i .moves) + length (soFar l ws i .stands .queue) + 2 * soFar l ws i .stands .candidate ≤ 2 * (length ws + 1)
+          count : length (soFar l ws i .moves) + length (soFar l ws i .stands .queue) + 2 * soFar l ws i .stands .candidate
+              ≤ 2 * (length ws + 1)
           count = afterStarts-count (textOf l ws) (length ws) (length ws - i)
 
           stand : length (soFar l ws i .stands .queue) ≡ q .end - q .front
@@ -132,7 +130,8 @@ module _ {l : Limits} {S m₀ Q B N m : List ℕ} {q : Queue} {i : ℕ} (s : Sta
             ∙ held-rules l S B i (s .done) first (s .low) (standsIn Q q) (s .stands)
 
         -- in the whole strip the start went on from the present count
-        ran : Ran (atStart text i (standsIn Q q)) (q .moves) m (putMid (q .moves) (length m - q .moves) m n) (q .moves + r .moves) (standsIn Q′ r)
+        ran : Ran (atStart text i (standsIn Q q)) (q .moves) m (putMid (q .moves) (length m - q .moves) m n) (q .moves + r .moves)
+            (standsIn Q′ r)
         unfolding text
         ran =
             ran-lent (atStart text i (standsIn Q q)) (q .moves) m n (r .moves) (standsIn Q′ r) (omega (arith, started-room, started-length))
@@ -169,7 +168,8 @@ module _ {l : Limits} {S m₀ Q B N m : List ℕ} {q : Queue} {i : ℕ} (s : Sta
             ran .moves
             ∙ ap (λ (t : Taken Standing). onward (q .moves) (map code (t .moves)) m) rule
             ∙ ap (onward (q .moves) (map code own)) (s .moves)
-            ∙ over-onward (map code (soFar l ws i .moves)) (map code own) m₀ (q .moves) (s .count ∙ sym (length-codes (soFar l ws i .moves)))
+            ∙ over-onward (map code (soFar l ws i .moves)) (map code own) m₀ (q .moves)
+            (s .count ∙ sym (length-codes (soFar l ws i .moves)))
             ∙ ap (λ (c : List ℕ). over c m₀) (sym (ap (map code) more ∙ map-append (soFar l ws i .moves) own))
 
         pub started-settle : SettleAsks i S Q′ r B N

@@ -2,7 +2,7 @@
 use Prim.Native.Nat.{ℕ, _+_, _-_, _*_, _≤_}
 use mathlib.Core.Path.{_≡_}
 use mathlib.Core.Bool.{Bool}
-use mathlib.Core.List.{List, map}
+use mathlib.Core.List.{List, [], map}
 use lib.Dec.{leb}
 use lib.ListN.{length, getD, set, replicate}
 use Rattle.laws.specs.Number.{if}
@@ -12,11 +12,11 @@ use Rattle.laws.specs.Strip.{over}
 use Rattle.paper.specs.declared.Limits.{Limits}
 use Rattle.paper.specs.declared.Answer.{Answer}
 use Rattle.paper.specs.Allowed.{limitsHold, ParagraphPassed}
-use Rattle.paper.specs.Moves.{code}
+use Rattle.paper.specs.Moves.{code, Taken, still}
 use Rattle.paper.specs.Paragraph as Paragraph
-use Rattle.paper.specs.QueueRules.{frontNext, queueMoves}
+use Rattle.paper.specs.QueueRules.{Standing, textOf, frontNext, afterStarts, queueMoves}
 use Rattle.paper.specs.Strips.{entries, sums, bestEntry, ParagraphStrips, paragraphSet}
-use Rattle.strips.specs.Filling.{ended}
+use Rattle.strips.specs.Filling.{Entered, ended}
 use Rattle.strips.specs.Words.{wordsOf, Holds}
 use Rattle.queue.specs.declared.Queue.{Queue}
 use Rattle.queue.specs.Asks.{stood}
@@ -48,15 +48,36 @@ pub record Settles (i goal : ℕ) (E Q : List ℕ) (q : Queue) (B N B′ N′ : 
   pub next : N′ ≡ set N (i - 1) (if (short? goal E) (length E) (frontNext (listed (stood Q q))))
 
 -- ---- all starts, on strips that are exactly long enough
+abbrev pub bestAt : Limits → List ℕ → ℕ → ℕ
+bestAt l ws i = bestEntry (Paragraph.best l ws i)
+
+-- the moves of all starts down to i + 1, and what stands then
+abbrev pub soFar : Limits → List ℕ → ℕ → Taken Standing
+soFar l ws i = afterStarts (textOf l ws) (length ws) (length ws - i)
+
+-- the best strip holds the bests of the starts after i
+pub record Done (l : Limits) (S B : List ℕ) (i : ℕ) : Type 0 where
+  pub holds : Holds (limitsHold l) S
+  pub bests : Entered (bestAt l (wordsOf S)) 1 (length (wordsOf S)) (i + 1) B
+
+pub record ShortAsks (l : Limits) (S B N : List ℕ) : Type 0 where
+  pub holds : Holds (limitsHold l) S
+  pub best : length B ≡ length S
+  pub next : length N ≡ length S
+
+-- the starts down to i + 1 are done, and no rule has moved
+pub record Begun (l : Limits) (S B N : List ℕ) (i : ℕ) : Type 0 where
+  pub low : i ≤ length (wordsOf S)
+  pub unmoved : soFar l (wordsOf S) i ≡ still (record { queue = []; candidate = length S })
+  pub done : Done l S B i
+  pub nexts : Entered (Paragraph.chosenNext l (wordsOf S)) 1 (length (wordsOf S)) (i + 1) N
+
 pub record StartsAsk (l : Limits) (S B N Q m : List ℕ) : Type 0 where
   pub holds : Holds (limitsHold l) S
   pub best : length B ≡ length S
   pub next : length N ≡ length S
   pub queue : length Q + 1 ≡ length S
   pub moves : 2 * length Q ≤ length m
-
-abbrev pub bestAt : Limits → List ℕ → ℕ → ℕ
-bestAt l ws i = bestEntry (Paragraph.best l ws i)
 
 abbrev pub bests : Limits → List ℕ → List ℕ
 bests l ws = entries (bestAt l ws) 1 (length ws + 1)

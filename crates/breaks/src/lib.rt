@@ -10,7 +10,8 @@ use strips::clear;
 use strips::fill_sums;
 use strips::follow;
 ghost use Rattle.paper.specs.Strips.{paragraphStrips};
-ghost use Rattle.breaks.specs.Asks.{ChooseAsks, Chooses, SettleAsks, Settles, StartsAsk, Starts, FillAsks, Filled, SetAsks, IsSet};
+ghost use Rattle.breaks.specs.Asks.{ChooseAsks, Chooses, SettleAsks, Settles, ShortAsks, Begun, StartsAsk, Starts};
+ghost use Rattle.breaks.specs.Asks.{FillAsks, Filled, SetAsks, IsSet};
 
 // The best of a start and its chosen next.
 pub struct Chosen {
@@ -63,6 +64,27 @@ fn settle(
     next[i - 1] = chosen.next;
 }
 
+// The starts, from n down, whose rest is shorter than lmin: no line is long enough for a rule to move, and the start takes n+1 at no cost.
+// Answers the first that is not one of them.
+fn short_starts(l: Limits, sums: &[u32], best: &mut [u64], next: &mut [u32]) -> usize
+    requires { ⌜ ShortAsks l (now sums) (now best) (now next) ⌝ }
+    ensures { λ r. ⌜ Begun l (now (sums .entry)) (now (best .exit)) (now (next .exit)) r ⌝ }
+{
+    let n = sums.len() - 1;
+    best[n] = 0;
+    next[n] = 0;
+    let mut i = n;
+    while i > 0 {
+        if l.lmin <= sums[n] - sums[i - 1] {
+            break;
+        }
+        i -= 1;
+        best[i] = 0;
+        next[i] = sums.len() as u32;
+    }
+    i
+}
+
 // All starts, from n down to 1, on strips that are exactly long enough. Answers the number of moves.
 fn starts(
     l: Limits,
@@ -75,17 +97,14 @@ fn starts(
     requires { ⌜ StartsAsk l (now sums) (now best) (now next) (now queue) (now moves) ⌝ }
     ensures { λ r. ⌜ Starts l (now (sums .entry)) (now (moves .entry)) r (now (best .exit)) (now (next .exit)) (now (moves .exit)) ⌝ }
 {
-    let n = queue.len();
-    best[n] = 0;
-    next[n] = 0;
     let mut q = Queue {
         front: 0,
         end: 0,
-        candidate: n + 1,
+        candidate: sums.len(),
         moves: 0,
         cost: NONE,
     };
-    let mut i = n;
+    let mut i = short_starts(l, sums, best, next);
     while 0 < i {
         let count = q.moves;
         let p = measure_from(l, sums[i - 1]);

@@ -5,120 +5,111 @@ use borrow.Author.Needs.{needs}
 use Rattle.breaks.proofs.Agreeing.{held-bests}
 use Rattle.breaks.proofs.Starting.{Started, started-length, started-room, started-place, started-asks}
 use Rattle.breaks.proofs.Starting.{started-fits, started-settle, started-next}
-use Rattle.breaks.proofs.Ends.{many, roomy, started-first, started-done}
+use Rattle.breaks.proofs.Beginning.{begun-started}
+use Rattle.breaks.proofs.Ends.{many, roomy, started-done}
 use Rattle.breaks.proofs.starts.Statement.{statement}
 use Rattle.breaks.proofs.starts.Tie as tie
 
 abbrev Inv-loop : tie.InvT-loop
-Inv-loop l sums best₀ next₀ queue₀ moves₀ n q₀ i₀ best next queue moves q i = Started l sums moves₀ queue best next moves q i
+Inv-loop l sums best₀ next₀ queue₀ moves₀ q₀ i₀ best next queue moves q i = Started l sums moves₀ queue best next moves q i
 
 abbrev μ-loop : tie.MeasureT-loop
-μ-loop l sums best₀ next₀ queue₀ moves₀ n q₀ i₀ best next queue moves q i = i
+μ-loop l sums best₀ next₀ queue₀ moves₀ q₀ i₀ best next queue moves q i = i
 
-mul-best : tie.Need-mul-best Inv-loop μ-loop
-mul-best c =
-    let pre = c .before .before .before .before .before .pre in
-    omega (arith, many pre, pre .holds .passed .few)
-
-slice-write-best : tie.Need-slice-write-best Inv-loop μ-loop
-slice-write-best c =
-    let pre = c .before .before .before .before .before .pre in
-    omega (arith, pre .best, pre .queue)
-
-mul-next : tie.Need-mul-next Inv-loop μ-loop
-mul-next c =
-    let pre = c .before .before .before .before .before .pre in
-    omega (arith, many pre, pre .holds .passed .few)
-
-slice-write-next : tie.Need-slice-write-next Inv-loop μ-loop
-slice-write-next c =
-    let pre = c .before .before .before .before .before .pre in
-    omega (arith, pre .next, pre .queue)
-
-add-t13 : tie.Need-add-t13 Inv-loop μ-loop
-add-t13 c =
-    let pre = c .before .before .before .before .before .pre in
-    omega (arith, many pre, pre .holds .passed .few)
+short-starts-requires : tie.Need-short-starts-requires Inv-loop μ-loop
+short-starts-requires c κs =
+    let pre = c .before .before .before .before .before .before .before .pre in
+    record { holds = pre .holds; best = pre .best; next = pre .next }
 
 loop-holds : tie.Need-loop-holds Inv-loop μ-loop
-loop-holds c = started-first (c .before .before .before .before .before .pre)
+loop-holds c =
+    let pre = c .before .before .before .before .before .before .before .before .before .before .before .before .pre in
+    let short-starts = c .before .before .before .before .short-starts in
+    begun-started (short-starts .ensures) _ _ (pre .queue)
 
 sub-measure-from : tie.Need-sub-measure-from Inv-loop μ-loop
 sub-measure-from c = omega (arith, c .loop-test .taken)
 
 mul-measure-from : tie.Need-mul-measure-from Inv-loop μ-loop
 mul-measure-from c =
-    let good = c .before .before .before .before .before .before .before .good in
-    let pre = c .before .before .before .before .before .before .before .pre in
+    let good = c .before .before .before .before .before .before .before .before .before .before .before .before .before .before .good in
+    let pre = c .before .before .before .before .before .before .before .before .before .before .before .before .before .before .pre in
     let loop = c .before .loop in
     omega (arith, c .loop-test .taken, loop .inv .low, pre .queue, many pre, good)
 
 shared-slice-read-measure-from : tie.Need-shared-slice-read-measure-from Inv-loop μ-loop
 shared-slice-read-measure-from c =
-    let pre = c .before .before .before .before .before .before .before .before .pre in
+    let pre =
+    c .before .before .before .before .before .before .before .before .before .before .before .before .before .before .before .pre in
     let loop = c .before .before .loop in
     let loop-test = c .before .loop-test in
     omega (arith, loop-test .taken, loop .inv .low, pre .queue, many pre)
 
 measure-from-requires : tie.Need-measure-from-requires Inv-loop μ-loop
 measure-from-requires c κs =
-    let pre = c .before .before .before .before .before .before .before .before .pre in
+    let pre =
+    c .before .before .before .before .before .before .before .before .before .before .before .before .before .before .before .pre in
     let loop = c .before .before .loop in
     let loop-test = c .before .loop-test in
     started-place (loop .inv) (roomy pre) (loop-test .taken)
 
 mul-at-start : tie.Need-mul-at-start Inv-loop μ-loop
 mul-at-start c =
-    let good = c .before .before .before .before .before .before .before .before .before .before .before .good in
-    let pre = c .before .before .before .before .before .before .before .before .before .before .before .pre in
+    let far = c .before .before .before .before .before .before .before .before .before .before .before .before in
+    let good = far .before .before .before .before .before .before .good in
+    let pre = far .before .before .before .before .before .before .pre in
     let loop = c .before .before .before .before .before .loop in
     omega (arith, started-room (loop .inv) (roomy pre), good)
 
 sub-at-start : tie.Need-sub-at-start Inv-loop μ-loop
 sub-at-start c =
-    let pre = c .before .before .before .before .before .before .before .before .before .before .before .pre in
+    let far = c .before .before .before .before .before .before .before .before .before .before .before .before in
+    let pre = far .before .before .before .before .before .before .pre in
     let loop = c .before .before .before .before .before .loop in
     omega (arith, started-room (loop .inv) (roomy pre), started-length (loop .inv) (roomy pre))
 
 part-at-start-start : tie.Need-part-at-start-start Inv-loop μ-loop
 part-at-start-start c =
-    let pre = c .before .before .before .before .before .before .before .before .before .before .before .pre in
+    let far = c .before .before .before .before .before .before .before .before .before .before .before .before in
+    let pre = far .before .before .before .before .before .before .pre in
     let loop = c .before .before .before .before .before .loop in
     omega (arith, started-room (loop .inv) (roomy pre), started-length (loop .inv) (roomy pre))
 
 at-start-requires : tie.Need-at-start-requires Inv-loop μ-loop
 at-start-requires c κs =
-    let pre = c .before .before .before .before .before .before .before .before .before .before .before .before .pre in
+    let far = c .before .before .before .before .before .before .before .before .before .before .before .before in
+    let pre = far .before .before .before .before .before .before .before .pre in
     let loop = c .before .before .before .before .before .before .loop in
     let loop-test = c .before .before .before .before .before .loop-test in
     let measure-from = c .before .before .before .measure-from in
-    started-asks (loop .inv) (roomy pre) (loop-test .taken) _ (measure-from .ensures .0)
-    (measure-from .ensures .1)
+    started-asks (loop .inv) (roomy pre) (loop-test .taken) _ (measure-from .ensures .0) (measure-from .ensures .1)
 
 settle-requires : tie.Need-settle-requires Inv-loop μ-loop
 settle-requires c κs =
     let far = c .before .before .before .before .before .before .before .before .before .before .before .before in
-    let pre = far .before .before .before .before .before .before .before .before .pre in
+    let pre =
+    far .before .before .before .before .before .before .before .before .before .before .before .before .before .before .before .pre in
     let loop = far .before .before .loop in
     let loop-test = far .before .loop-test in
     let measure-from = c .before .before .before .before .before .before .before .before .before .before .before .measure-from in
     let at-start = c .before .before .before .before .before .before .before .at-start in
-    started-settle (loop .inv) (roomy pre) (loop-test .taken) _ (measure-from .ensures .0)
-    (measure-from .ensures .1) _ _ _ (at-start .ensures)
+    started-settle (loop .inv) (roomy pre) (loop-test .taken) _ (measure-from .ensures .0) (measure-from .ensures .1) _ _ _
+    (at-start .ensures)
 
-add-t17 : tie.Need-add-t17 Inv-loop μ-loop
-add-t17 c =
+add-t18 : tie.Need-add-t18 Inv-loop μ-loop
+add-t18 c =
     let far = c .before .before .before .before .before .before .before .before .before .before .before .before in
-    let good = far .before .before .before .before .before .before .before .before .before .before .before .before .before .before .good in
-    let pre = far .before .before .before .before .before .before .before .before .before .before .before .before .before .before .pre in
+    let farther = far .before .before .before .before .before .before .before .before .before .before .before .before in
+    let good = farther .before .before .before .before .before .before .before .before .before .good in
+    let pre = farther .before .before .before .before .before .before .before .before .before .pre in
     let loop = far .before .before .before .before .before .before .before .before .loop in
     let loop-test = far .before .before .before .before .before .before .before .loop-test in
     let measure-from = far .before .before .before .before .before .measure-from in
     let at-start = far .before .at-start in
     omega (
       arith,
-      started-fits (loop .inv) (roomy pre) (loop-test .taken) _ (measure-from .ensures .0)
-          (measure-from .ensures .1) _ _ _ (at-start .ensures),
+      started-fits (loop .inv) (roomy pre) (loop-test .taken) _ (measure-from .ensures .0) (measure-from .ensures .1) _ _ _
+          (at-start .ensures),
       good,
     )
 
@@ -137,32 +128,39 @@ loop-less c =
 loop-again : tie.Need-loop-again Inv-loop μ-loop
 loop-again c =
     let far = c .before .before .before .before .before .before .before .before .before .before .before .before in
-    let pre = far .before .before .before .before .before .before .before .before .before .before .before .before .before .before .pre in
+    let farther = far .before .before .before .before .before .before .before .before .before .before .before .before in
+    let pre = farther .before .before .before .before .before .before .before .before .before .pre in
     let loop = far .before .before .before .before .before .before .before .before .loop in
     let loop-test = far .before .before .before .before .before .before .before .loop-test in
     let measure-from = far .before .before .before .before .before .measure-from in
     let at-start = far .before .at-start in
     let settle = c .before .before .before .before .before .settle in
-    started-next (loop .inv) (roomy pre) (loop-test .taken) _ (measure-from .ensures .0)
-    (measure-from .ensures .1) _ _ _ (at-start .ensures) _ _ (settle .ensures)
+    started-next (loop .inv) (roomy pre) (loop-test .taken) _ (measure-from .ensures .0) (measure-from .ensures .1) _ _ _
+    (at-start .ensures) _ _ (settle .ensures)
 
 same-length : tie.Need-same-length Inv-loop μ-loop
 same-length c =
-    let pre = c .before .before .before .before .before .before .before .pre in
+    let pre = c .before .before .before .before .before .before .before .before .before .before .before .before .before .before .pre in
     let loop = c .before .loop in
     omega (arith, held-bests _ _ _ _ (loop .inv .done), pre .best)
 
 same-length-2 : tie.Need-same-length-2 Inv-loop μ-loop
 same-length-2 c =
-    let pre = c .before .before .before .before .before .before .before .pre in
+    let pre = c .before .before .before .before .before .before .before .before .before .before .before .before .before .before .pre in
     let loop = c .before .loop in
     omega (arith, loop .inv .nexts .size, pre .next, pre .queue, many pre)
 
 same-length-3 : tie.Need-same-length-3 Inv-loop μ-loop
-same-length-3 c = omega (arith, c .before .loop .inv .queue-size, many (c .before .before .before .before .before .before .before .pre))
+same-length-3 c =
+    let pre = c .before .before .before .before .before .before .before .before .before .before .before .before .before .before .pre in
+    let loop = c .before .loop in
+    omega (arith, loop .inv .queue-size, many pre)
 
 same-length-4 : tie.Need-same-length-4 Inv-loop μ-loop
-same-length-4 c = started-length (c .before .loop .inv) (roomy (c .before .before .before .before .before .before .before .pre))
+same-length-4 c =
+    let pre = c .before .before .before .before .before .before .before .before .before .before .before .before .before .before .pre in
+    let loop = c .before .loop in
+    started-length (loop .inv) (roomy pre)
 
 returns : tie.Need-returns Inv-loop μ-loop
 returns c = let z : c .before .loop .i ≡ 0 = omega (arith, c .loop-test .left) in started-done (rw z at (c .before .loop .inv))
@@ -173,11 +171,7 @@ starts-spec =
     (tie.spec
     Inv-loop
     μ-loop
-    mul-best
-    slice-write-best
-    mul-next
-    slice-write-next
-    add-t13
+    short-starts-requires
     loop-holds
     sub-measure-from
     mul-measure-from
@@ -189,7 +183,7 @@ starts-spec =
     (λ c. search needs)
     at-start-requires
     settle-requires
-    add-t17
+    add-t18
     sub-i
     loop-less
     loop-again
