@@ -1,12 +1,12 @@
 -- One turn of a loop that looks for the first entry that fails, or for whether any does. Assumes nothing.
-use Prim.Native.Nat.{ℕ, suc, _+_, _≤_, _<_}
+use Prim.Native.Nat.{ℕ, _+_, _≤_, _<_}
 use mathlib.Core.Path.{_≡_}
 use mathlib.Core.Bool.{Bool, true, false, _&&_, and-true, and-false}
 use mathlib.Core.List.{List}
 use native.Mathlib.Numerals.{add-one}
 use native.Mathlib.Omega.{arith}
 use borrow.Author.Tests.{le-leb, lt-leb, ne-eqb}
-use lib.Dec.{leb, eqb}
+use lib.Dec.{eqb}
 use lib.ListN.{length, getD, drop, drop-of-length-le}
 use lib.Seq.{drop-cons}
 use Rattle.laws.specs.Number.{when-true, when-false}
@@ -16,15 +16,12 @@ use Rattle.paper.specs.Told.{firstFailing, firstShort}
 module _ (ws : List ℕ) (k : ℕ) (ok : ℕ → Bool) where
   pub failing-here : k < length ws → ok (getD ws k 0) ≡ false → firstFailing ok (k + 1) (drop k ws) ≡ k + 1
   unfolding firstFailing
-  failing-here h e =
-      rw (drop-cons ws k 0 h) (when-false (ok (getD ws k 0)) (firstFailing ok (suc (k + 1)) (drop (suc k) ws)) (k + 1) e)
+  failing-here h e = rw (drop-cons ws k 0 h) (when-false _ _ _ e)
 
   pub failing-later : k < length ws → ok (getD ws k 0) ≡ true →
       firstFailing ok (k + 1) (drop k ws) ≡ firstFailing ok (k + 1 + 1) (drop (k + 1) ws)
   unfolding firstFailing
-  failing-later h e =
-      rw (drop-cons ws k 0 h, add-one (k + 1), add-one k)
-      (when-true (ok (getD ws k 0)) (firstFailing ok (suc (suc k)) (drop (suc k) ws)) (suc k) e)
+  failing-later h e = rw (drop-cons ws k 0 h, add-one (k + 1), add-one k) (when-true _ _ _ e)
 
   pub failing-never : length ws ≤ k → firstFailing ok (k + 1) (drop k ws) ≡ 0
   unfolding firstFailing
@@ -46,18 +43,12 @@ module _ (has needs : List ℕ) (k : ℕ) where
   pub short-here : k < length has → k < length needs → getD has k 0 < getD needs k 0 →
       firstShort (k + 1) (drop k has) (drop k needs) ≡ k + 1
   unfolding firstShort
-  short-here h g e =
-      rw (drop-cons has k 0 h, drop-cons needs k 0 g)
-      (when-false (leb (getD needs k 0) (getD has k 0)) (firstShort (suc (k + 1)) (drop (suc k) has) (drop (suc k) needs)) (k + 1)
-      (lt-leb (getD needs k 0) (getD has k 0) e))
+  short-here h g e = rw (drop-cons has k 0 h, drop-cons needs k 0 g) (when-false _ _ _ (lt-leb _ _ e))
 
   pub short-later : k < length has → k < length needs → getD needs k 0 ≤ getD has k 0 →
       firstShort (k + 1) (drop k has) (drop k needs) ≡ firstShort (k + 1 + 1) (drop (k + 1) has) (drop (k + 1) needs)
   unfolding firstShort
-  short-later h g e =
-      rw (drop-cons has k 0 h, drop-cons needs k 0 g, add-one (k + 1), add-one k)
-      (when-true (leb (getD needs k 0) (getD has k 0)) (firstShort (suc (suc k)) (drop (suc k) has) (drop (suc k) needs)) (suc k)
-      (le-leb (getD needs k 0) (getD has k 0) e))
+  short-later h g e = rw (drop-cons has k 0 h, drop-cons needs k 0 g, add-one (k + 1), add-one k) (when-true _ _ _ (le-leb _ _ e))
 
   pub short-never : length has ≤ k → firstShort (k + 1) (drop k has) (drop k needs) ≡ 0
   unfolding firstShort

@@ -1,10 +1,10 @@
 -- What it means that refusals 1 to 5 do not apply. Assumes nothing but what each law states.
 use Prim.Native.Nat.{ℕ, suc, _≤_}
 use mathlib.Core.Path.{_≡_, refl}
-use mathlib.Core.Bool.{Bool, true, false, not, _&&_}
+use mathlib.Core.Bool.{Bool, true, false, _&&_}
 use mathlib.Core.List.{List, [], _∷_}
 use native.Mathlib.Omega.{arith}
-use borrow.Author.Tests.{leb-true}
+use borrow.Author.Tests.{leb-true, not-false}
 use lib.Dec.{T, leb}
 use Rattle.laws.specs.Number.{all}
 use Rattle.paper.specs.declared.Checked.the-variants.{Accept}
@@ -13,13 +13,13 @@ use Rattle.paper.specs.Told.{firstFailing, firstShort, itself, setterChecks, ch
 use Rattle.refusals.specs.Checks.{none-found, refused-other}
 
 -- ---- no entry fails
-none-fails : (ws : List ℕ) (k : ℕ) → 1 ≤ k → firstFailing lengthHolds k ws ≡ 0 → T (all lengthHolds ws)
+pub none-fails : {A : Type 0} (ok : A → Bool) (k : ℕ) (xs : List A) → 1 ≤ k → firstFailing ok k xs ≡ 0 → T (all ok xs)
 unfolding firstFailing
-none-fails [] k h e = tt
-none-fails (w ∷ ws) k h e = go (lengthHolds w) e (λ f. none-fails ws (suc k) (omega arith) f)
+none-fails ok k [] h e = tt
+none-fails ok k (x ∷ xs) h e = go (ok x) e (none-fails ok (suc k) xs (omega arith))
   where
-    go : (b : Bool) → _≡_ {A = ℕ} (elim b [ true ↦ firstFailing lengthHolds (suc k) ws | false ↦ k ]) 0 →
-        (firstFailing lengthHolds (suc k) ws ≡ 0 → T (all lengthHolds ws)) → T (b && all lengthHolds ws)
+    go : (b : Bool) → _≡_ {A = ℕ} (elim b [ true ↦ firstFailing ok (suc k) xs | false ↦ k ]) 0 →
+        (firstFailing ok (suc k) xs ≡ 0 → T (all ok xs)) → T (b && all ok xs)
     go true f rest = rest f
     go false f rest = absurd (omega arith)
 
@@ -29,7 +29,7 @@ Roomy [] ns = Unit {0}
 Roomy (h ∷ hs) [] = Unit {0}
 Roomy (h ∷ hs) (n ∷ ns) = (n ≤ h) × Roomy hs ns
 
-none-short : (k : ℕ) (has needs : List ℕ) → 1 ≤ k → firstShort k has needs ≡ 0 → Roomy has needs
+pub none-short : (k : ℕ) (has needs : List ℕ) → 1 ≤ k → firstShort k has needs ≡ 0 → Roomy has needs
 unfolding firstShort
 none-short k [] ns h e = tt
 none-short k (has ∷ hs) [] h e = tt
@@ -45,20 +45,16 @@ pub record PassedChecks (hold : Bool) (ws has needs : List ℕ) : Type 0 where
   pub passed : Passed hold ws
   pub room : Roomy has needs
 
-holds : (b : Bool) → not b ≡ false → T b
-holds true e = tt
-holds false e = let z : _≡_ {A = ℕ} 0 1 = cc in absurd (omega arith)
-
 pub accepted : (hold : Bool) (ws has needs : List ℕ) → checked hold ws has needs ≡ Accept → PassedChecks hold ws has needs
 unfolding checked
 accepted hold ws has needs e =
     let none = none-found itself refused-other (setterChecks hold ws has needs) e in
     record {
       passed = record {
-        limits = holds hold (none .limits .0);
+        limits = rw (not-false hold (none .limits .0)) tt;
         words = none .words;
         few = none .few;
-        lengths = none-fails ws 1 (omega arith) (none .lengths);
+        lengths = none-fails lengthHolds 1 ws (omega arith) (none .lengths);
       };
       room = none-short 1 has needs (omega arith) (none .room);
     }

@@ -1,10 +1,10 @@
 -- The first check that applies, over the checks of any part. Assumes nothing but what each law states.
 use Prim.Native.Nat.{ℕ, _≤_}
-use mathlib.Core.Path.{_≡_, refl, ap, sym}
-use mathlib.Core.Bool.{Bool, true, false, not}
+use mathlib.Core.Path.{_≡_, refl, ap}
+use mathlib.Core.Bool.{Bool, true, false}
 use mathlib.Core.List.{List, [], _∷_, _++_}
 use native.Mathlib.Omega.{arith}
-use borrow.Author.Tests.{eqb-true, eqb-false, ltb-false}
+use borrow.Author.Tests.{eqb-true, eqb-false, ltb-false, not-false}
 use Rattle.laws.specs.Number.{if}
 use Rattle.paper.specs.declared.Refusal.{Refusal}
 use Rattle.paper.specs.declared.Checked.{Checked}
@@ -29,10 +29,6 @@ none-applies {refuse = refuse} {accept = accept} other (c ∷ cs) e = go (c .app
 none-both : {R : Type 0} (cs ds : List (Check R)) → NoneApplies (cs ++ ds) → NoneApplies cs × NoneApplies ds
 none-both [] ds n = (tt, n)
 none-both (c ∷ cs) ds n = let later = none-both cs ds (n .1) in ((n .0, later .0), later .1)
-
-not-false : (b : Bool) → not b ≡ false → b ≡ true
-not-false true e = refl
-not-false false e = sym e
 
 pub record NoneFound {R : Type 0} (c : Checks R) : Type 0 where
   pub words : 1 ≤ c .n
@@ -74,7 +70,7 @@ module _ {R A : Type 0} (plain : Refusal → R) (refuse : R → A) where
   abbrev pub unlessPlain : Checked → A → A
   unlessPlain = unless (λ r. refuse (plain r))
 
-  then-others : (cs ds : List (Check R)) (accept : A) →
+  pub then-others : (cs ds : List (Check R)) (accept : A) →
       firstGiven refuse accept (cs ++ ds) ≡ firstGiven refuse (firstGiven refuse accept ds) cs
   then-others [] ds accept = refl
   then-others (c ∷ cs) ds accept = ap (if (c .applies) (refuse (c .refusal))) (then-others cs ds accept)
