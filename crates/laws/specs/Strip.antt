@@ -38,6 +38,21 @@ module _ {A : Type 0} where
       let e : length xs + (k - length xs) ≡ k = omega arith in
       rw (← e) (getD-append-add xs (drop (length xs) s) (k - length xs) d ∙ getD-drop (length xs) s (k - length xs) d)
 
+  -- the front itself
+  pub over-take : (xs s : List A) (k : ℕ) → length xs ≡ k → take k (over xs s) ≡ xs
+  unfolding over
+  over-take xs s k e = take-at xs (drop (length xs) s) k e
+
+  -- a strip of just the entries written
+  pub over-all : (xs s : List A) → length s ≤ length xs → over xs s ≡ xs
+  unfolding over
+  over-all xs s h = ap (λ (l : List A). xs ++ l) (drop-of-length-le s {i = length xs} h) ∙ append-nil xs
+
+  -- a part of the first k entries was lent and comes back wholly written
+  pub over-back : (xs ys s : List A) (k : ℕ) → ys ≡ xs → length xs ≡ k → ys ++ drop k s ≡ over xs s
+  unfolding over
+  over-back xs ys s k e f = rw (e, f)
+
   -- nothing written
   pub over-nil : (s : List A) → over [] s ≡ s
   unfolding over

@@ -3,3 +3,4 @@ pub mod Asks
 pub mod Chain
 pub mod Running
 pub mod Words
+pub mod Filling
