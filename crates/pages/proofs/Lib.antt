@@ -1,4 +1,3 @@
-pub mod Nexts
-pub mod Going
-pub mod Parts
 pub mod Paging
+pub mod Parts
+pub mod Answers

@@ -1,106 +1,187 @@
--- The answer and the boundaries, from what stands after all starts. Assumes nothing.
-use Prim.Native.Nat.{ℕ, _+_, _-_, _^_, _≤_, _<_}
+-- One turn of the loop over the starts, from n down to 0. Assumes nothing.
+use Prim.Native.Nat.{ℕ, suc, _+_, _-_, _*_, _≤_, _<_}
 use mathlib.Core.Path.{_≡_, refl, ap, sym, subst, _∙_}
-use mathlib.Core.List.{List, [], _∷_}
+use mathlib.Core.List.{List}
 use native.Mathlib.Omega.{arith}
-use lib.ListN.{length, getD, length-append, List·getD-append}
-use Rattle.laws.specs.Cost.{Cost, none, some, has-some}
-use Rattle.laws.specs.Search.{largest}
-use Rattle.laws.specs.Strip.{over, over-nil, over-front, length-over}
-use Rattle.laws.specs.Chosen.{next}
+use borrow.Rule.Slice.PartMut.{putMid}
+use lib.ListN.{length, take, drop, set, replicate, length-replicate, length-drop, length-set}
+use Rattle.laws.specs.Strip.{over, over-all, onward-zero, onward-nil, lent-is}
 use Rattle.paper.specs.declared.PageLimits.{PageLimits}
-use Rattle.paper.specs.declared.Answer.the-variants.{Set, None}
-use Rattle.paper.specs.Paragraph.{end}
+use Rattle.paper.specs.Allowed.{pageLimitsHold}
 use Rattle.paper.specs.Index as Index
-use Rattle.paper.specs.Index.{index}
-use Rattle.paper_theory.specs.Cheapest.{chosen-index}
-use Rattle.paper.specs.Strips.{entries, bestEntry, IndexStrips, indexWritten, indexSet}
-use Rattle.paper_theory.specs.Entries.{length-entries, getD-entries}
-use Rattle.pointer_theory.specs.Numbers.{best-none}
-use Rattle.strips.specs.Asks.{FollowAsk, Followed}
-use Rattle.strips.specs.Chain.{nextIn, chain, Leads, leads-rises, leads-on, chain-later, chosen-leads}
-use Rattle.pages.specs.Asks.{bestsOf, nextsOf, Filled, PageAsk, Paged}
+use Rattle.paper.specs.Moves.{Taken, joined}
+use Rattle.paper.specs.PointerRules.{pagesOf, Pointing, atStart, afterStarts, pointerMoves}
+use Rattle.pointer_theory.specs.Ready.{Ready, ready}
+use Rattle.pointer_theory.specs.Entries.{left-right, right-right}
+use Rattle.pointer_theory.specs.Count.{starts-count}
+use Rattle.strips.specs.declared.Reached.{Reached}
+use Rattle.strips.specs.Filling.{Entered, entered-first, entered-more, entered-all, entered-whole}
+use Rattle.strips.specs.Running.{Ran, ran-length, ran-lent, joined-room, joined-ran}
+use Rattle.strips.specs.Words.{wordsOf, Holds, holds-length}
+use Rattle.pointer.specs.Held.{bestAt, PageBests, best-end, bests-size, bests-more}
+use Rattle.pointer.specs.Asks.{PointerStrips, pointerStrips, pointing, PointerStartAsk, PointerStarted}
+use Rattle.pages.specs.Asks.{PageSized, PageStartsAsk, PageStarts}
 
-module _ (l : PageLimits) (ws : List ℕ) (s : IndexStrips) (taken : ℕ) (S B N L R m : List ℕ) (d : Filled l ws (s .sums) (s .best) (s .next) (s .left) (s .right) (s .moves) taken S B N L R m) where
-  abbrev exit : List ℕ → IndexStrips
-  exit Z = record { sums = S; best = B; next = N; left = L; right = R; moves = m; boundaries = Z }
+-- what stands once the starts down to i are done
+abbrev pub soFar : PageLimits → List ℕ → ℕ → Taken Pointing
+soFar l ws i = afterStarts (pagesOf l ws) (length ws) (length ws + 1 - i)
 
-  exit-written : (bs Z : List ℕ) → Z ≡ over bs (s .boundaries) → exit Z ≡ indexWritten l ws s bs
-  unfolding indexWritten
-  exit-written bs Z e = rw (d .sums, d .best, d .next, d .left, d .right, d .moves, e)
+-- the starts down to i are done
+pub record Paging (l : PageLimits) (S m : List ℕ) (t : PointerStrips) (i r count : ℕ) : Type 0 where
+  pub held : Holds (pageLimitsHold l) S
+  pub low : i ≤ length S
+  pub room : 2 * length (wordsOf S) ≤ length m
+  pub ran : Ran (soFar l (wordsOf S) i) 0 m (t .moves) count (pointing r t)
+  pub bests : PageBests l (wordsOf S) (t .best) i
+  pub nexts : Entered (Index.chosenNext l (wordsOf S)) 0 (length (wordsOf S)) i (t .next)
+  pub sized : PageSized S t
 
-  total-is : getD B 0 0 ≡ bestEntry (Index.best l ws 0)
-  total-is =
-      ap (λ (b : List ℕ). getD b 0 0) (d .best)
-      ∙ over-front (bestsOf l ws) (s .best) 0 0 (omega (arith, length-entries f 0 (length ws + 2)))
-      ∙ getD-entries f 0 (length ws + 2) 0 0 (omega arith)
-    where
-      f : ℕ → ℕ
-      f i = bestEntry (Index.best l ws i)
+-- the next start is ready, and each strip is as long as the entries used
+module _ (l : PageLimits) {S m : List ℕ} (t : PointerStrips) {i r count : ℕ} (held : Holds (pageLimitsHold l) S) (low : i ≤ length S)
+    (ran : Ran (soFar l (wordsOf S) i) 0 m (t .moves) count (pointing r t)) where
+  ready-next : Ready l (wordsOf S) (i - 1) (pointing r t)
+  ready-next =
+      let n : ℕ = length (wordsOf S) in
+      let size = holds-length (pageLimitsHold l) S held in
+      let z : n - (n + 1 - i) ≡ i - 1 = omega arith in
+      subst (Ready l (wordsOf S) (i - 1)) (ran .stands)
+      (subst (λ (k : ℕ). Ready l (wordsOf S) k (soFar l (wordsOf S) i .stands)) z (ready l (wordsOf S) (n + 1 - i)))
 
-  pub page-none : PageAsk l ws s → getD B 0 0 ≡ 2 ^ 64 - 1 → Paged l ws s (None taken) (exit (s .boundaries))
-  unfolding indexSet
-  page-none a e =
-      let f : Index.best l ws 0 ≡ none = best-none l ws (a .fill .passed) 0 (omega arith) (omega (arith, total-is)) in
-      rw (f, d .count, exit-written [] (s .boundaries) (sym (over-nil (s .boundaries))))
+  sizes : PageBests l (wordsOf S) (t .best) i → Entered (Index.chosenNext l (wordsOf S)) 0 (length (wordsOf S)) i (t .next) → PageSized S t
+  sizes bests nexts =
+      let size = holds-length (pageLimitsHold l) S held in
+      let next = ready-next in
+      record { best = omega (arith, bests-size bests); next = omega (arith, nexts .size); left = omega arith; right = omega arith }
 
-  -- ---- the boundaries
-  abbrev es : List ℕ
-  es = entries (Index.chosenNext l ws) 0 (length ws + 1)
+-- ---- before the first
+cleared : (n e : ℕ) (L M : List ℕ) → e ≡ n + 1 → length L ≡ e + 1 → M ≡ over (replicate (e + 1) 0) L → M ≡ replicate (n + 2) 0
+cleared n e L M f size is =
+    let z : e + 1 ≡ n + 2 = omega arith in
+    is ∙ over-all (replicate (e + 1) 0) L (omega (arith, length-replicate {A = ℕ} (e + 1) 0)) ∙ ap (λ (k : ℕ). replicate k 0) z
 
-  es-size : length (nextsOf l ws) ≡ length ws + 2
-  es-size = omega (arith, length-append es (0 ∷ []), length-entries (Index.chosenNext l ws) 0 (length ws + 1))
+pub paging-first : {l : PageLimits} {S : List ℕ} {s : PointerStrips} → PageStartsAsk l S s → {L R : List ℕ} →
+    L ≡ over (replicate (length S + 1) 0) (s .left) → R ≡ over (replicate (length S + 1) 0) (s .right) →
+    Paging l S (s .moves) (pointerStrips (set (s .best) (length S) 0) (set (s .next) (length S) 0) L R (s .moves)) (length S) (length S) 0
+unfolding afterStarts
+paging-first {l} {S} {s} a {L} {R} left right =
+    let n : ℕ = length (wordsOf S) in
+    let e : length S ≡ n + 1 = holds-length (pageLimitsHold l) S (a .held) in
+    let z : n + 1 - length S ≡ 0 = omega arith in
+    let lefts = cleared n (length S) (s .left) L e (a .sized .left) left in
+    let rights = cleared n (length S) (s .right) R e (a .sized .right) right in
+    record {
+      held = a .held;
+      low = omega arith;
+      room = omega (arith, a .moves);
+      ran = rw (z, lefts, rights, e) (record { moves = sym (onward-nil 0 (s .moves) (omega arith)); count = refl; stands = refl });
+      bests = record {
+        passed = a .held .passed;
+        entered = rw e (entered-first (s .best) (n + 1) (omega (arith, a .sized .best)) (omega arith));
+      };
+      nexts = rw e (entered-first (s .next) (n + 1) (omega (arith, a .sized .next)) (omega arith));
+      sized = record {
+        best = length-set (s .best) (length S) 0 ∙ a .sized .best;
+        next = length-set (s .next) (length S) 0 ∙ a .sized .next;
+        left = ap length lefts ∙ length-replicate {A = ℕ} (n + 2) 0 ∙ omega arith;
+        right = ap length rights ∙ length-replicate {A = ℕ} (n + 2) 0 ∙ omega arith;
+      };
+    }
 
-  next-size : PageAsk l ws s → length ws + 2 ≤ length N
-  next-size a = omega (arith, a .fill .next, ap length (d .next), length-over (nextsOf l ws) (s .next) (omega (arith, a .fill .next, es-size)))
+-- ---- one start
+module _ {l : PageLimits} {S m : List ℕ} {t : PointerStrips} {i r count : ℕ} (g : Paging l S m t i r count) where
+  abbrev ws : List ℕ
+  ws = wordsOf S
 
-  next-is : (k : ℕ) → 0 ≤ k → k ≤ length ws → nextIn N 0 k ≡ Index.chosenNext l ws k
-  next-is k h g =
-      let z : k - 0 ≡ k = omega arith in
-      let y : 0 + k ≡ k = omega arith in
-      rw z
-      (ap (λ (n : List ℕ). getD n k 0) (d .next)
-      ∙ over-front (nextsOf l ws) (s .next) k 0 (omega (arith, es-size))
-      ∙ List·getD-append es (0 ∷ []) 0 k (omega (arith, length-entries (Index.chosenNext l ws) 0 (length ws + 1)))
-      ∙ getD-entries (Index.chosenNext l ws) 0 (length ws + 1) k 0 (omega arith) ∙ rw y)
+  size : length S ≡ length ws + 1
+  size = holds-length (pageLimitsHold l) S (g .held)
 
-  -- "where there is no setting, [..] next is 0"
-  no-next : (i : ℕ) → i < end ws → Index.best l ws i ≡ none → Index.chosenNext l ws i ≡ 0
-  unfolding Index.best Index.chosenNext next
-  no-next i h e = rw e
+  pub paging-length : length (t .moves) ≡ length m
+  paging-length =
+      ran-length (soFar l ws i) 0 m (t .moves) count (pointing r t) (g .ran)
+      (omega (arith, g .ran .count, g .room, starts-count l ws (length ws + 1 - i)))
 
-  module _ (a : PageAsk l ws s) (has : ¬ (getD B 0 0 ≡ 2 ^ 64 - 1)) where
-    best-is : Index.best l ws 0 ≡ some (getD B 0 0)
-    unfolding bestEntry
-    best-is = go (Index.best l ws 0) refl total-is
-      where
-        go : (c : Cost) → Index.best l ws 0 ≡ c → getD B 0 0 ≡ bestEntry c → Index.best l ws 0 ≡ some (getD B 0 0)
-        go none e f = absurd (has f)
-        go (some v) e f = e ∙ ap some (sym f)
+  module _ (pos : 0 < i) where
+    abbrev then : Pointing → Taken Pointing
+    then = atStart (pagesOf l ws) (length ws) (i - 1)
 
-    -- the nexts lead on from 0
-    leads : Leads N 0 (length ws) 0
-    unfolding Index.best index
-    leads =
-        chosen-leads (index l ws) (λ i. largest) (Index.chosenNext l ws) (chosen-index l ws) no-next N 0 (length ws) refl next-is 0 (omega arith) (λ h. has-some best-is)
+    turn : soFar l ws (i - 1) ≡ joined (soFar l ws i) then
+    unfolding afterStarts
+    turn =
+        let z : length ws - (length ws + 1 - i) ≡ i - 1 = omega (arith, g .low, size) in
+        let y : length ws + 1 - (i - 1) ≡ suc (length ws + 1 - i) = omega (arith, g .low, size) in
+        rw (y, z)
 
-    module _ (w : ℕ) (first : w ≡ getD N 0 0) where
-      leads-first : Leads N 0 (length ws) w
-      leads-first = rw first (leads-on N 0 (length ws) 0 leads (omega arith))
+    room : count + length (then (pointing r t) .moves) ≤ length (t .moves)
+    room =
+        let all = starts-count l ws (length ws + 1 - (i - 1)) in
+        let next = ap (λ (u : Taken Pointing). length (u .moves)) turn in
+        omega (
+          arith,
+          joined-room (soFar l ws i) then 0 m (t .moves) count (pointing r t) (g .ran) (omega (arith, g .room)),
+          paging-length,
+        )
 
-      pub page-follows : FollowAsk N 0 (length ws) w (s .boundaries)
-      page-follows = record {
-        leads = leads-first;
-        held = omega (arith, next-size a);
-        few = a .fill .passed .few;
-        room = omega (arith, a .boundaries, leads-rises N 0 (length ws) 0 leads (omega arith));
+    pub paging-began : count ≤ length (t .moves)
+    paging-began = omega (arith, room)
+
+    -- the start is lent the moves strip from the present count on
+    abbrev lent : PointerStrips
+    lent = pointerStrips (t .best) (t .next) (t .left) (t .right) (take (length (t .moves) - count) (drop count (t .moves)))
+
+    pub paging-ask : PointerStartAsk l (i - 1) S r lent
+    paging-ask =
+        let z : suc (i - 1) ≡ i = omega arith in
+        record {
+          held = g .held;
+          low = omega (arith, g .low);
+          ready = ready-next l t (g .held) (g .low) (g .ran);
+          bests = rw z (g .bests);
+          next-size = g .sized .next;
+          enough = rw (lent-is (t .moves) count, length-drop count (t .moves)) (omega (arith, room));
+        }
+
+    module _ {p : Reached} {u : PointerStrips} (d : PointerStarted l (i - 1) ws r lent p u) where
+      pub paging-fits : count + p .moves ≤ length m
+      paging-fits = omega (arith, room, d .ran .count, paging-length)
+
+      pub paging-next :
+          Paging l S m (pointerStrips (u .best) (u .next) (u .left) (u .right) (putMid count (length (t .moves) - count) (t .moves) (u .moves)))
+          (i - 1) (p .at) (count + p .moves)
+      paging-next =
+          let whole = putMid count (length (t .moves) - count) (t .moves) (u .moves) in
+          let next = pointerStrips (u .best) (u .next) (u .left) (u .right) whole in
+          let ran = ran-lent (then (pointing r t)) count (t .moves) (u .moves) (p .moves) (pointing (p .at) u) paging-began (d .ran) in
+          let all : Ran (soFar l ws (i - 1)) 0 m whole (count + p .moves) (pointing (p .at) u) =
+          rw turn
+          (joined-ran (soFar l ws i) then 0 m (t .moves) count (pointing r t) (g .ran) whole (count + p .moves) (pointing (p .at) u)
+          (omega arith) ran) in
+          let low : i - 1 ≤ length ws = omega (arith, g .low, size) in
+          let bests = bests-more (g .bests) (i - 1) (u .best) (omega arith) low (d .best) in
+          let nexts = entered-more (g .nexts) (i - 1) (i - 1) (u .next) (omega arith) low (omega arith) (d .next) in
+          record {
+            held = g .held;
+            low = omega (arith, g .low);
+            room = g .room;
+            ran = all;
+            bests = bests;
+            nexts = nexts;
+            sized = sizes l next (g .held) (omega (arith, g .low)) all bests nexts;
+          }
+
+  -- ---- after the last
+  pub paging-done : i ≤ 0 → PageStarts l ws m count t
+  unfolding pointerMoves
+  paging-done end =
+      let z : i ≡ 0 = omega arith in
+      let y : length ws + 1 - i ≡ length ws + 1 = omega arith in
+      let ran = rw y at (g .ran) in
+      let bests = rw z at (g .bests .entered) in
+      let count : length ws + 1 + 1 ≡ length ws + 2 = omega arith in
+      record {
+        best = entered-whole (best-end l ws) bests (length ws + 1) (omega arith) ∙ ap (Rattle.paper.specs.Strips.entries (bestAt l ws) 0) count;
+        next = entered-all (rw z at (g .nexts)) (length ws + 1) (omega arith);
+        left = ap (λ (s : Pointing). s .left) (sym (ran .stands)) ∙ left-right l ws;
+        right = ap (λ (s : Pointing). s .right) (sym (ran .stands)) ∙ right-right l ws;
+        moves = ran .moves ∙ onward-zero _ m;
+        count = omega (arith, ran .count);
       }
-
-      pub page-some : (Z : List ℕ) (found : ℕ) → Followed (chain N 0 (length ws) w) (s .boundaries) Z found →
-          Paged l ws s (Set (getD B 0 0) found taken) (exit Z)
-      unfolding indexSet Index.boundaries
-      page-some Z found f =
-          let e : w ≡ Index.chosenNext l ws 0 = first ∙ next-is 0 (omega arith) (omega arith) in
-          let c : chain N 0 (length ws) w ≡ Index.boundaries l ws =
-          ap (chain N 0 (length ws)) e ∙ chain-later N 0 (length ws) (Index.chosenNext l ws) next-is 0 (subst (Leads N 0 (length ws)) e leads-first) in
-          rw (best-is, f .counted, c, d .count, exit-written (Index.boundaries l ws) Z (f .is ∙ ap (λ (b : List ℕ). over b (s .boundaries)) c))

@@ -10,65 +10,76 @@ use Rattle.paper.specs.Allowed.{pageLimitsHold, Passed}
 use Rattle.paper.specs.Index as Index
 use Rattle.paper.specs.Moves.{code}
 use Rattle.paper.specs.PointerRules.{pointerMoves}
-use Rattle.paper.specs.Strips.{entries, sums, bestEntry, leftEntry, rightEntry, IndexStrips, IndexOutcome, indexSet}
+use Rattle.paper.specs.Strips.{entries, sums, leftEntry, rightEntry, IndexStrips, IndexOutcome, indexSet}
+use Rattle.strips.specs.Filling.{ended}
 use Rattle.strips.specs.Words.{Holds}
+use Rattle.pointer.specs.Held.{bestAt}
+use Rattle.pointer.specs.Asks.{PointerStrips, pointerStrips}
 
 -- ---- the part used of each strip, as 01 says it
 abbrev pub bestsOf : PageLimits → List ℕ → List ℕ
-bestsOf l ws = entries (λ i. bestEntry (Index.best l ws i)) 0 (length ws + 2)
+bestsOf l ws = entries (bestAt l ws) 0 (length ws + 2)
 
 abbrev pub nextsOf : PageLimits → List ℕ → List ℕ
-nextsOf l ws = entries (Index.chosenNext l ws) 0 (length ws + 1) ++ (0 ∷ [])
+nextsOf l ws = ended (Index.chosenNext l ws) 0 (length ws + 1)
 
 abbrev pub leftsOf : PageLimits → List ℕ → List ℕ
 leftsOf l ws = 0 ∷ entries (leftEntry (Index.best l ws)) 1 (length ws + 1)
 
 abbrev pub rightsOf : PageLimits → List ℕ → List ℕ
-rightsOf l ws = 0 ∷ entries (rightEntry (Index.best l ws) (length ws)) 1 (length ws) ++ (0 ∷ [])
+rightsOf l ws = 0 ∷ ended (rightEntry (Index.best l ws) (length ws)) 1 (length ws)
 
 -- ---- all starts
--- the sums of a text, strips of just the entries used, and room for the moves
-pub record StartsAsk (l : PageLimits) (S B N L R m : List ℕ) : Type 0 where
+-- strips of just the entries used
+pub record PageSized (S : List ℕ) (s : PointerStrips) : Type 0 where
+  pub best : length (s .best) ≡ length S + 1
+  pub next : length (s .next) ≡ length S + 1
+  pub left : length (s .left) ≡ length S + 1
+  pub right : length (s .right) ≡ length S + 1
+
+-- the sums of a text, and room for the moves
+pub record PageStartsAsk (l : PageLimits) (S : List ℕ) (s : PointerStrips) : Type 0 where
   pub held : Holds (pageLimitsHold l) S
-  pub best : length B ≡ length S + 1
-  pub next : length N ≡ length S + 1
-  pub left : length L ≡ length S + 1
-  pub right : length R ≡ length S + 1
-  pub moves : 2 * length S ≤ length m + 2
+  pub sized : PageSized S s
+  pub moves : 2 * length S ≤ length (s .moves) + 2
 
 -- each strip is the part used
-pub record AllStarted (l : PageLimits) (ws m₀ : List ℕ) (taken : ℕ) (B N L R m : List ℕ) : Type 0 where
-  pub best : B ≡ bestsOf l ws
-  pub next : N ≡ nextsOf l ws
-  pub left : L ≡ leftsOf l ws
-  pub right : R ≡ rightsOf l ws
-  pub moves : m ≡ over (map code (pointerMoves l ws)) m₀
+pub record PageStarts (l : PageLimits) (ws m : List ℕ) (taken : ℕ) (t : PointerStrips) : Type 0 where
+  pub best : t .best ≡ bestsOf l ws
+  pub next : t .next ≡ nextsOf l ws
+  pub left : t .left ≡ leftsOf l ws
+  pub right : t .right ≡ rightsOf l ws
+  pub moves : t .moves ≡ over (map code (pointerMoves l ws)) m
   pub count : taken ≡ length (pointerMoves l ws)
 
 -- ---- the strips
 -- a list that refusals 1 to 5 pass, but for the room of the boundaries
-pub record FillAsk (l : PageLimits) (ws S B N L R m : List ℕ) : Type 0 where
+pub record PageFillAsk (l : PageLimits) (ws S : List ℕ) (s : PointerStrips) : Type 0 where
   pub passed : Passed (pageLimitsHold l) ws
   pub sums : length ws + 1 ≤ length S
-  pub best : length ws + 2 ≤ length B
-  pub next : length ws + 2 ≤ length N
-  pub left : length ws + 2 ≤ length L
-  pub right : length ws + 2 ≤ length R
-  pub moves : 2 * length ws ≤ length m
+  pub best : length ws + 2 ≤ length (s .best)
+  pub next : length ws + 2 ≤ length (s .next)
+  pub left : length ws + 2 ≤ length (s .left)
+  pub right : length ws + 2 ≤ length (s .right)
+  pub moves : 2 * length ws ≤ length (s .moves)
 
 -- each strip has the part used at its front, and its rest as it was
-pub record Filled (l : PageLimits) (ws S₀ B₀ N₀ L₀ R₀ m₀ : List ℕ) (taken : ℕ) (S B N L R m : List ℕ) : Type 0 where
-  pub sums : S ≡ over (sums ws) S₀
-  pub best : B ≡ over (bestsOf l ws) B₀
-  pub next : N ≡ over (nextsOf l ws) N₀
-  pub left : L ≡ over (leftsOf l ws) L₀
-  pub right : R ≡ over (rightsOf l ws) R₀
-  pub moves : m ≡ over (map code (pointerMoves l ws)) m₀
+pub record PageFilled (l : PageLimits) (ws S : List ℕ) (s : PointerStrips) (taken : ℕ) (S′ : List ℕ) (t : PointerStrips) : Type 0 where
+  pub sums : S′ ≡ over (sums ws) S
+  pub best : t .best ≡ over (bestsOf l ws) (s .best)
+  pub next : t .next ≡ over (nextsOf l ws) (s .next)
+  pub left : t .left ≡ over (leftsOf l ws) (s .left)
+  pub right : t .right ≡ over (rightsOf l ws) (s .right)
+  pub moves : t .moves ≡ over (map code (pointerMoves l ws)) (s .moves)
   pub count : taken ≡ length (pointerMoves l ws)
+
+-- of an index's strips, those that the starts write
+abbrev pub startStrips : IndexStrips → PointerStrips
+startStrips s = pointerStrips (s .best) (s .next) (s .left) (s .right) (s .moves)
 
 -- a list that refusals 1 to 5 pass
 pub record PageAsk (l : PageLimits) (ws : List ℕ) (s : IndexStrips) : Type 0 where
-  pub fill : FillAsk l ws (s .sums) (s .best) (s .next) (s .left) (s .right) (s .moves)
+  pub fill : PageFillAsk l ws (s .sums) (startStrips s)
   pub boundaries : length ws ≤ length (s .boundaries)
 
 -- the answer and every strip at exit are those of 01

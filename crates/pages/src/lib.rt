@@ -7,8 +7,10 @@ use strips::clear;
 use strips::fill_sums;
 use strips::follow;
 use strips::wide;
+ghost use Rattle.paper.specs.Strips.{indexStrips};
 ghost use Rattle.strips.specs.Words.{wordsOf};
-ghost use Rattle.pages.specs.Asks.{StartsAsk, AllStarted, FillAsk, Filled, PageAsk, Paged};
+ghost use Rattle.pointer.specs.Asks.{pointerStrips};
+ghost use Rattle.pages.specs.Asks.{PageStartsAsk, PageStarts, PageFillAsk, PageFilled, PageAsk, Paged};
 
 // "At start i, from n down to 0", on strips of just the entries used. Answers the number of moves.
 fn starts(
@@ -20,8 +22,9 @@ fn starts(
     right: &mut [u32],
     moves: &mut [u32],
 ) -> usize
-    requires { ⌜ StartsAsk l (now sums) (now best) (now next) (now left) (now right) (now moves) ⌝ }
-    ensures { λ r. ⌜ AllStarted l (wordsOf (now (sums .entry))) (now (moves .entry)) r (now (best .exit)) (now (next .exit)) (now (left .exit)) (now (right .exit)) (now (moves .exit)) ⌝ }
+    requires { ⌜ PageStartsAsk l (now sums) (pointerStrips (now best) (now next) (now left) (now right) (now moves)) ⌝ }
+    ensures { λ r. ⌜ PageStarts l (wordsOf (now (sums .entry))) (now (moves .entry))
+        r (pointerStrips (now (best .exit)) (now (next .exit)) (now (left .exit)) (now (right .exit)) (now (moves .exit))) ⌝ }
 {
     let end = sums.len();
     clear(left, end + 1);
@@ -51,8 +54,10 @@ fn fill(
     right: &mut [u32],
     moves: &mut [u32],
 ) -> usize
-    requires { ⌜ FillAsk l (now lengths) (now sums) (now best) (now next) (now left) (now right) (now moves) ⌝ }
-    ensures { λ r. ⌜ Filled l (now (lengths .entry)) (now (sums .entry)) (now (best .entry)) (now (next .entry)) (now (left .entry)) (now (right .entry)) (now (moves .entry)) r (now (sums .exit)) (now (best .exit)) (now (next .exit)) (now (left .exit)) (now (right .exit)) (now (moves .exit)) ⌝ }
+    requires { ⌜ PageFillAsk l (now lengths) (now sums) (pointerStrips (now best) (now next) (now left) (now right) (now moves)) ⌝ }
+    ensures { λ r. ⌜ PageFilled l (now (lengths .entry))
+        (now (sums .entry)) (pointerStrips (now (best .entry)) (now (next .entry)) (now (left .entry)) (now (right .entry)) (now (moves .entry)))
+        r (now (sums .exit)) (pointerStrips (now (best .exit)) (now (next .exit)) (now (left .exit)) (now (right .exit)) (now (moves .exit))) ⌝ }
 {
     let n = lengths.len();
     fill_sums(lengths, sums);
@@ -79,8 +84,10 @@ pub fn page(
     moves: &mut [u32],
     boundaries: &mut [u32],
 ) -> Answer
-    requires { ⌜ PageAsk l (now lengths) (record { sums = now sums; best = now best; next = now next; left = now left; right = now right; moves = now moves; boundaries = now boundaries }) ⌝ }
-    ensures { λ r. ⌜ Paged l (now (lengths .entry)) (record { sums = now (sums .entry); best = now (best .entry); next = now (next .entry); left = now (left .entry); right = now (right .entry); moves = now (moves .entry); boundaries = now (boundaries .entry) }) r (record { sums = now (sums .exit); best = now (best .exit); next = now (next .exit); left = now (left .exit); right = now (right .exit); moves = now (moves .exit); boundaries = now (boundaries .exit) }) ⌝ }
+    requires { ⌜ PageAsk l (now lengths) (indexStrips (now sums) (now best) (now next) (now left) (now right) (now moves) (now boundaries)) ⌝ }
+    ensures { λ r. ⌜ Paged l (now (lengths .entry))
+        (indexStrips (now (sums .entry)) (now (best .entry)) (now (next .entry)) (now (left .entry)) (now (right .entry)) (now (moves .entry)) (now (boundaries .entry)))
+        r (indexStrips (now (sums .exit)) (now (best .exit)) (now (next .exit)) (now (left .exit)) (now (right .exit)) (now (moves .exit)) (now (boundaries .exit))) ⌝ }
 {
     let taken = fill(l, lengths, sums, best, next, left, right, moves);
     let total = best[0];

@@ -1,32 +1,44 @@
--- The text that the strips of an index hold. Assumes nothing but what each law states.
-use Prim.Native.Nat.{ℕ, suc, _+_, _≤_}
-use mathlib.Core.Path.{_≡_, _∙_}
+-- The bests that the best strip of an index holds. Assumes nothing but what each law states.
+use Prim.Native.Nat.{ℕ, _+_, _≤_}
+use mathlib.Core.Path.{_≡_, ap, sym, _∙_}
 use mathlib.Core.Logic.{⊎-elim}
 use mathlib.Core.List.{List}
 use native.Mathlib.Omega.{arith}
-use lib.ListN.{length, getD, set, length-set}
-use lib.Seq.{getD-set-same, getD-set-other}
+use lib.ListN.{length, getD, set}
 use Rattle.laws.specs.Number.{split}
+use Rattle.laws.specs.Cost.{some}
 use Rattle.paper.specs.declared.PageLimits.{PageLimits}
 use Rattle.paper.specs.Allowed.{pageLimitsHold, Passed}
 use Rattle.paper.specs.Index as Index
 use Rattle.paper.specs.Strips.{bestEntry}
+use Rattle.pointer_theory.specs.Turns.{best-last}
+use Rattle.strips.specs.Filling.{Entered, entered-more}
+
+-- the entry of index k
+abbrev pub bestAt : PageLimits → List ℕ → ℕ → ℕ
+bestAt l ws k = bestEntry (Index.best l ws k)
 
 -- the best strip holds the bests of the indices from i on
-pub record Bests (l : PageLimits) (ws B : List ℕ) (i : ℕ) : Type 0 where
+pub record PageBests (l : PageLimits) (ws B : List ℕ) (i : ℕ) : Type 0 where
   pub passed : Passed (pageLimitsHold l) ws
-  pub size : length B ≡ length ws + 2
-  pub each : (k : ℕ) → i ≤ k → k ≤ length ws + 1 → getD B k 0 ≡ bestEntry (Index.best l ws k)
+  pub entered : Entered (bestAt l ws) 0 (length ws) i B
 
--- the best of one start more is entered
-pub bests-more : (l : PageLimits) (ws B C : List ℕ) (i : ℕ) → i ≤ length ws → C ≡ set B i (bestEntry (Index.best l ws i)) → Bests l ws B (suc i) → Bests l ws C i
-bests-more l ws B C i low e b =
-    rw e
-    (record {
-      passed = b .passed;
-      size = length-set B i (bestEntry (Index.best l ws i)) ∙ b .size;
-      each = λ k h g. ⊎-elim
-          (λ f. let z : k ≡ i = omega arith in rw z (getD-set-same B i (bestEntry (Index.best l ws i)) 0 (omega (arith, b .size))))
-          (λ f. getD-set-other B i k (bestEntry (Index.best l ws i)) 0 (omega arith) ∙ b .each k f g)
-          (split k i);
-    })
+-- "The best of n+1 is 0"
+pub best-end : (l : PageLimits) (ws : List ℕ) → bestAt l ws (length ws + 1) ≡ 0
+unfolding bestEntry
+best-end l ws = ap bestEntry (best-last l ws)
+
+module _ {l : PageLimits} {ws B : List ℕ} {i : ℕ} (b : PageBests l ws B i) where
+  pub bests-size : length B ≡ length ws + 2
+  bests-size = omega (arith, b .entered .size)
+
+  pub bests-at : (k : ℕ) → i ≤ k → k ≤ length ws + 1 → getD B k 0 ≡ bestAt l ws k
+  bests-at k low high =
+      ⊎-elim
+      (λ h. b .entered .each k k (omega arith) low h)
+      (λ h. let e : k ≡ length ws + 1 = omega arith in b .entered .last k (omega arith) ∙ sym (ap (bestAt l ws) e ∙ best-end l ws))
+      (split k (length ws))
+
+  -- the best of one start more is entered
+  pub bests-more : (k : ℕ) (C : List ℕ) → k + 1 ≡ i → k ≤ length ws → C ≡ set B k (bestAt l ws k) → PageBests l ws C k
+  bests-more k C next low e = record { passed = b .passed; entered = entered-more (b .entered) k k C next low (omega arith) e }

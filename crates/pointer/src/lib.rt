@@ -1,4 +1,5 @@
-// The pointer rules of document 01, a start at a time, which has taken `count` moves. Workshop parts: they ask what their callers meet.
+// The pointer rules of document 01, a start at a time, which has taken `count` moves. Gap(i, r) is sums[r - 1] - sums[i]: what a start allows
+// is read off the sums once a rule. Workshop parts: they ask what their callers meet.
 use paper::Kind;
 use paper::Move;
 use paper::PageLimits;
@@ -9,19 +10,12 @@ use strips::put;
 use strips::wide;
 ghost use mathlib.Core.Path.{_≡_};
 ghost use lib.ListN.{length};
-ghost use Rattle.paper.specs.Index.{gap as isGap, item};
+ghost use Rattle.paper.specs.Index.{item};
 ghost use Rattle.paper.specs.PointerRules.{steps as isSteps, jumps as isJumps, pointed, chooser};
 ghost use Rattle.strips.specs.Running.{Ran};
 ghost use Rattle.strips.specs.Words.{wordsOf};
-ghost use Rattle.pointer.specs.Asks.{pagesIn, GapAsk, StepsAsk, JumpsAsk, LinksAsk, ChoiceAsk, SettleAsk, StartAsk, OwnAsk, JoinAsk, Joined, Joins, Settled, Started};
-
-// Gap(a, b): the lengths strictly between a and b.
-fn gap(sums: &[u32], a: usize, b: usize) -> u32
-    requires { ⌜ GapAsk (now sums) a b ⌝ }
-    ensures { λ r. ⌜ r ≡ isGap (wordsOf (now (sums .entry))) a b ⌝ }
-{
-    sums[b - 1] - sums[a]
-}
+ghost use Rattle.pointer.specs.Asks.{pagesIn, linkStrips, pointerStrips, StepsAsk, JumpsAsk, LinksAsk, JoinAsk, OwnAsk, ChoiceAsk};
+ghost use Rattle.pointer.specs.Asks.{PointerSettleAsk, PointerStartAsk, LinksCame, JoinCame, PointerSettled, PointerStarted};
 
 // "Step r to r-1 while Gap(i, r) > lmax".
 fn steps(
@@ -35,9 +29,10 @@ fn steps(
     requires { ⌜ StepsAsk (isSteps (pagesIn l (now sums)) i r) l i (now sums) r count (length (now moves)) ⌝ }
     ensures { λ p. ⌜ Ran (isSteps (pagesIn l (now (sums .entry))) i r) count (now (moves .entry)) (now (moves .exit)) (p .moves) (p .at) ⌝ }
 {
+    let from = sums[i];
     let mut at = r;
     let mut taken = count;
-    while l.lmax < gap(sums, i, at) {
+    while from + l.lmax < sums[at - 1] {
         at -= 1;
         put(
             moves,
@@ -63,8 +58,10 @@ fn jumps(
     count: usize,
 ) -> Reached
     requires { ⌜ JumpsAsk (isJumps (pagesIn l (now sums)) i (now left) r r) l i (now sums) (now left) r count (length (now moves)) ⌝ }
-    ensures { λ p. ⌜ Ran (isJumps (pagesIn l (now (sums .entry))) i (now (left .entry)) r r) count (now (moves .entry)) (now (moves .exit)) (p .moves) (p .at) ⌝ }
+    ensures { λ p. ⌜ Ran (isJumps (pagesIn l (now (sums .entry))) i (now (left .entry)) r r) count
+        (now (moves .entry)) (now (moves .exit)) (p .moves) (p .at) ⌝ }
 {
+    let from = sums[i];
     let mut at = r;
     let mut taken = count;
     loop {
@@ -73,7 +70,7 @@ fn jumps(
         if to == 0 {
             break;
         }
-        if gap(sums, i, to) < l.lmin {
+        if sums[to - 1] < from + l.lmin {
             break;
         }
         put(
@@ -101,25 +98,27 @@ fn point(
     count: usize,
 ) -> Reached
     requires { ⌜ JumpsAsk (pointed (pagesIn l (now sums)) i (now left) r) l i (now sums) (now left) r count (length (now moves)) ⌝ }
-    ensures { λ p. ⌜ Ran (pointed (pagesIn l (now (sums .entry))) i (now (left .entry)) r) count (now (moves .entry)) (now (moves .exit)) (p .moves) (p .at) ⌝ }
+    ensures { λ p. ⌜ Ran (pointed (pagesIn l (now (sums .entry))) i (now (left .entry)) r) count
+        (now (moves .entry)) (now (moves .exit)) (p .moves) (p .at) ⌝ }
 {
     let stepped = steps(l, i, sums, r, moves, count);
     jumps(l, i, sums, left, stepped.at, moves, stepped.moves)
 }
 
-// "from k = i+1, while best k > best i, Link k (its left becomes i) and go on at the right of k".
+// "from k = i+1, while best k > best i, Link k (its left becomes i) and go on at the right of k": own is the best of i.
 fn links(
     i: usize,
+    own: u64,
     best: &[u64],
     left: &mut [u32],
     right: &[u32],
     moves: &mut [u32],
     count: usize,
 ) -> Reached
-    requires { ⌜ LinksAsk i (now best) (now left) (now right) count (length (now moves)) ⌝ }
-    ensures { λ p. ⌜ Joined i (now (best .entry)) (now (left .entry)) (now (right .entry)) count (now (moves .entry)) (p .at) (p .moves) (now (left .exit)) (now (moves .exit)) ⌝ }
+    requires { ⌜ LinksAsk i own (now best) (linkStrips (now left) (now right) (now moves)) count ⌝ }
+    ensures { λ p. ⌜ LinksCame i (now (best .entry)) (linkStrips (now (left .entry)) (now (right .entry)) (now (moves .entry))) count
+        p (now (left .exit)) (now (moves .exit)) ⌝ }
 {
-    let own = best[i];
     let mut k = i + 1;
     let mut taken = count;
     while best[k] > own {
@@ -144,36 +143,34 @@ fn links(
 // "Then, for i ≥ 1 only": the links, and "the k reached becomes the right of i". Answers the moves taken so far.
 fn join(
     i: usize,
+    own: u64,
     best: &[u64],
     left: &mut [u32],
     right: &mut [u32],
     moves: &mut [u32],
     count: usize,
 ) -> usize
-    requires { ⌜ JoinAsk i (now best) (now left) (now right) count (length (now moves)) ⌝ }
-    ensures { λ r. ⌜ Joins i (now (best .entry)) (now (left .entry)) (now (right .entry)) count (now (moves .entry)) r (now (left .exit)) (now (right .exit)) (now (moves .exit)) ⌝ }
+    requires { ⌜ JoinAsk i own (now best) (linkStrips (now left) (now right) (now moves)) count ⌝ }
+    ensures { λ r. ⌜ JoinCame i (now (best .entry)) (linkStrips (now (left .entry)) (now (right .entry)) (now (moves .entry))) count
+        r (linkStrips (now (left .exit)) (now (right .exit)) (now (moves .exit))) ⌝ }
 {
     if i == 0 {
         return count;
     }
-    let reached = links(i, best, left, right, moves, count);
+    let reached = links(i, own, best, left, right, moves, count);
     right[i] = reached.at as u32;
     reached.moves
 }
 
-// "r is the chooser if Gap(i, r) lies in lmin..lmax and r has a setting": b is its best.
+// "r is the chooser if Gap(i, r) lies in lmin..lmax and r has a setting": b is its best, and the steps left Gap(i, r) within lmax.
 fn chooses(l: PageLimits, i: usize, sums: &[u32], r: usize, b: u64) -> bool
     requires { ⌜ ChoiceAsk l i (now sums) r b ⌝ }
     ensures { λ t. ⌜ t ≡ chooser (pagesIn l (now (sums .entry))) i r ⌝ }
 {
-    let g = gap(sums, i, r);
-    if g < l.lmin {
+    if b == NONE {
         return false;
     }
-    if g > l.lmax {
-        return false;
-    }
-    b != NONE
+    sums[i] + l.lmin <= sums[r - 1]
 }
 
 // The length that start i counts: nothing for 0.
@@ -188,19 +185,29 @@ fn own(sums: &[u32], i: usize) -> u64
     }
 }
 
-// The best and the chosen next of start i, where its rules came to r: "else i has none".
-fn settle(l: PageLimits, i: usize, sums: &[u32], best: &mut [u64], next: &mut [u32], r: usize)
-    requires { ⌜ SettleAsk l i (now sums) (now best) (now next) r ⌝ }
-    ensures { λ _. ⌜ Settled l (wordsOf (now (sums .entry))) i (now (best .entry)) (now (next .entry)) (now (best .exit)) (now (next .exit)) ⌝ }
+// The best and the chosen next of start i, where its rules came to r: "else i has none". Answers the best as it is written.
+fn settle(
+    l: PageLimits,
+    i: usize,
+    sums: &[u32],
+    best: &mut [u64],
+    next: &mut [u32],
+    r: usize,
+) -> u64
+    requires { ⌜ PointerSettleAsk l i (now sums) (now best) (now next) r ⌝ }
+    ensures { λ v. ⌜ PointerSettled l (wordsOf (now (sums .entry))) i (now (best .entry)) (now (next .entry))
+        v (now (best .exit)) (now (next .exit)) ⌝ }
 {
     let b = best[r];
     if chooses(l, i, sums, r, b) {
-        best[i] = own(sums, i) + b;
+        let cost = own(sums, i) + b;
+        best[i] = cost;
         next[i] = r as u32;
-        return;
+        return cost;
     }
     best[i] = NONE;
     next[i] = 0;
+    NONE
 }
 
 // One start, which is lent the moves strip from the present count on: the pointer, the choice, the links. The moves in the answer are its own.
@@ -215,12 +222,14 @@ pub fn at_start(
     r: usize,
     moves: &mut [u32],
 ) -> Reached
-    requires { ⌜ StartAsk l i (now sums) (now best) (now next) (record { pointer = r; left = now left; right = now right }) 0 (length (now moves)) ⌝ }
-    ensures { λ p. ⌜ Started l (wordsOf (now (sums .entry))) i (record { pointer = r; left = now (left .entry); right = now (right .entry) }) (now (best .entry)) (now (next .entry)) 0 (now (moves .entry)) (p .at) (p .moves) (now (best .exit)) (now (next .exit)) (now (left .exit)) (now (right .exit)) (now (moves .exit)) ⌝ }
+    requires { ⌜ PointerStartAsk l i (now sums) r (pointerStrips (now best) (now next) (now left) (now right) (now moves)) ⌝ }
+    ensures { λ p. ⌜ PointerStarted l i (wordsOf (now (sums .entry))) r
+        (pointerStrips (now (best .entry)) (now (next .entry)) (now (left .entry)) (now (right .entry)) (now (moves .entry)))
+        p (pointerStrips (now (best .exit)) (now (next .exit)) (now (left .exit)) (now (right .exit)) (now (moves .exit))) ⌝ }
 {
     let pointed = point(l, i, sums, left, r, moves, 0);
     let at = pointed.at;
-    settle(l, i, sums, best, next, at);
-    let taken = join(i, best, left, right, moves, pointed.moves);
+    let cost = settle(l, i, sums, best, next, at);
+    let taken = join(i, cost, best, left, right, moves, pointed.moves);
     Reached { at, moves: taken }
 }

@@ -4,8 +4,9 @@ use mathlib.Core.Path.{_≡_, ap, sym, _∙_}
 use mathlib.Core.Bool.{Bool}
 use mathlib.Core.List.{List}
 use native.Mathlib.Omega.{arith}
-use lib.ListN.{length, getD}
+use lib.ListN.{length, getD, take}
 use lib.Seq.{ext-getD}
+use Rattle.laws.specs.Strip.{over, over-take}
 use Rattle.paper.specs.Allowed.{Passed}
 use Rattle.paper_theory.specs.Scale.{upTo, upTo-suc, upTo-le}
 use Rattle.paper.specs.Strips.{entries, sums}
@@ -33,6 +34,10 @@ getD-sums ws k h =
     let e : 0 + k ≡ k = omega arith in
     getD-entries (upTo ws) 0 (length ws + 1) k 0 (omega arith) ∙ rw e
 
+-- the sums at the front of a strip
+pub sums-front : (ws s S : List ℕ) → S ≡ over (sums ws) s → take (length ws + 1) S ≡ sums ws
+sums-front ws s S e = ap (take (length ws + 1)) e ∙ over-take (sums ws) s (length ws + 1) (length-sums ws)
+
 pub words-of-sums : (ws : List ℕ) → wordsOf (sums ws) ≡ ws
 unfolding wordsOf
 words-of-sums ws =
@@ -58,6 +63,10 @@ holds-sums hold ws passed = record { passed = rw (words-of-sums ws) passed; is =
 module _ (hold : Bool) (S : List ℕ) (h : Holds hold S) where
   pub holds-length : length S ≡ length (wordsOf S) + 1
   holds-length = ap length (h .is) ∙ length-sums (wordsOf S)
+
+  -- the last index of a text is 4,097
+  pub holds-few : length S ≤ 4097
+  holds-few = omega (arith, holds-length, h .passed .few)
 
   pub holds-entry : (k : ℕ) → k ≤ length (wordsOf S) → getD S k 0 ≡ upTo (wordsOf S) k
   holds-entry k g = ap (λ (s : List ℕ). getD s k 0) (h .is) ∙ getD-sums (wordsOf S) k g

@@ -1,17 +1,34 @@
 -- `pages::page` meets its contract. Assumes nothing.
-use Rattle.pages.proofs.Paging.{page-none, page-follows, page-some}
 use borrow.Author.Needs.{needs}
+use Rattle.pages.proofs.Answers.{page-none, page-follows, page-some}
 use Rattle.pages.proofs.page.Statement.{statement}
 use Rattle.pages.proofs.page.Tie as tie
 
 returns : tie.Need-returns
-returns c = page-none _ _ _ _ _ _ _ _ _ _ (c .before .before .before .before .before .before .before .before .before .before .before .before .before .before .fill .ensures) (c .before .before .before .before .before .before .before .before .before .before .before .before .before .before .before .before .before .before .before .before .before .before .before .before .before .before .before .before .before .pre) (c .if1 .taken)
+returns c =
+    let at-sums = c .before .before .before .before .before .before .before .before .before .before .before .before .before in
+    let at-fill = at-sums .before in
+    let at-fill-arg = at-fill .before .before .before .before .before .before in
+    let pre = at-fill-arg .before .before .before .before .before .before .before .before .before .pre in
+    page-none pre (at-fill .fill .ensures) (c .if1 .taken)
 
 follow-requires : tie.Need-follow-requires
-follow-requires c κs = page-follows _ _ _ _ _ _ _ _ _ _ (c .before .before .before .before .before .before .before .before .before .before .before .before .before .before .before .before .before .fill .ensures) (c .before .before .before .before .before .before .before .before .before .before .before .before .before .before .before .before .before .before .before .before .before .before .before .before .before .before .before .before .before .before .before .before .pre) (c .before .before .before .if1 .left) _ (c .before .wide .ensures)
+follow-requires c κs =
+    let at-next = c .before .before .before .before .before .before .before .before .before .before .before .before in
+    let at-fill = at-next .before .before .before .before .before in
+    let at-fill-arg = at-fill .before .before .before .before .before .before in
+    let pre = at-fill-arg .before .before .before .before .before .before .before .before .before .pre in
+    page-follows pre (at-fill .fill .ensures) (c .before .before .before .if1 .left) (c .before .wide .ensures)
 
 returns-2 : tie.Need-returns-2
-returns-2 c = page-some _ _ _ _ _ _ _ _ _ _ (c .before .before .before .before .before .before .before .before .before .before .before .before .before .before .before .before .before .before .before .before .fill .ensures) (c .before .before .before .before .before .before .before .before .before .before .before .before .before .before .before .before .before .before .before .before .before .before .before .before .before .before .before .before .before .before .before .before .before .before .before .pre) (c .before .before .before .before .before .before .if1 .left) _ (c .before .before .before .before .wide .ensures) _ _ (c .before .before .follow .ensures)
+returns-2 c =
+    let at-if1 = c .before .before .before .before .before .before in
+    let at-sums = at-if1 .before .before .before .before .before .before .before .before .before .before .before .before .before in
+    let at-fill = at-sums .before in
+    let at-fill-arg = at-fill .before .before .before .before .before .before in
+    let pre = at-fill-arg .before .before .before .before .before .before .before .before .before .pre in
+    let answer = page-some pre (at-fill .fill .ensures) (at-if1 .if1 .left) (c .before .before .before .before .wide .ensures) in
+    answer (c .before .before .follow .ensures)
 
 pub page-spec : {M : Type 1} → statement M
 page-spec =

@@ -1,22 +1,35 @@
 -- `pointer::settle` meets its contract. Assumes nothing.
-use native.Mathlib.Omega.{arith}
-use Rattle.strips.specs.Words.{sums-size}
-use Rattle.pointer.proofs.Settles.{settle-none, settle-some, settle-small}
 use borrow.Author.Needs.{needs}
+use native.Mathlib.Omega.{arith}
+use Rattle.pointer.proofs.Scale.{page-few}
+use Rattle.pointer.proofs.Settles.{settle-none, settle-some, settle-small}
 use Rattle.pointer.proofs.settle.Statement.{statement}
 use Rattle.pointer.proofs.settle.Tie as tie
 
-add-best : tie.Need-add-best
-add-best c = omega (arith, settle-small _ _ _ _ (c .before .before .before .before .before .before .before .pre .choosing) _ (c .before .before .chooses .ensures) (c .before .if1 .taken) _ _ (c .before .before .before .before .before .before .before .pre .choice .is) (c .own .ensures) (c .before .before .before .before .before .before .before .pre .choice .held .passed) (omega (arith, c .before .before .before .before .before .before .before .pre .low, sums-size _ _ (c .before .before .before .before .before .before .before .pre .choice .held .is))))
+own-requires : tie.Need-own-requires
+own-requires c κs =
+    let pre = c .before .before .before .before .before .before .pre in
+    let page = pre .choice .page in record { is = page .held .is; low = omega arith }
+
+add-cost : tie.Need-add-cost
+add-cost c =
+    let pre = c .before .before .before .before .before .before .before .pre in
+    omega (arith, settle-small pre (c .before .before .chooses .ensures) (c .before .if1 .taken) (c .own .ensures))
 
 cast-next : tie.Need-cast-next
-cast-next c = omega (arith, c .before .before .before .before .before .before .before .pre .choice .within, sums-size _ _ (c .before .before .before .before .before .before .before .pre .choice .held .is), c .before .before .before .before .before .before .before .pre .choice .held .passed .few)
+cast-next c =
+    let pre = c .before .before .before .before .before .before .before .pre in
+    omega (arith, page-few (pre .choice .page))
 
 returns : tie.Need-returns
-returns c = settle-some _ _ _ _ (c .before .before .before .before .before .before .before .pre .choosing) _ (c .before .before .chooses .ensures) (c .before .if1 .taken) _ _ (c .before .before .before .before .before .before .before .pre .choice .is) (c .own .ensures) _ _
+returns c =
+    let pre = c .before .before .before .before .before .before .before .pre in
+    settle-some pre (c .before .before .chooses .ensures) (c .before .if1 .taken) (c .own .ensures)
 
 returns-2 : tie.Need-returns-2
-returns-2 c = settle-none _ _ _ _ (c .before .before .before .before .before .before .pre .choosing) _ (c .before .chooses .ensures) (c .if1 .left) _ _
+returns-2 c =
+    let pre = c .before .before .before .before .before .before .pre in
+    settle-none pre (c .before .chooses .ensures) (c .if1 .left)
 
 pub settle-spec : {M : Type 1} → statement M
 settle-spec =
@@ -25,8 +38,8 @@ settle-spec =
     (λ c. search needs)
     (λ c. search needs)
     (λ c κs. search needs)
-    (λ c κs. search needs)
-    add-best
+    own-requires
+    add-cost
     (λ c. search needs)
     (λ c. search needs)
     cast-next

@@ -1,52 +1,52 @@
 -- `pointer::steps` meets its contract. Assumes nothing.
+use borrow.Author.Needs.{needs}
 use native.Mathlib.Omega.{arith}
-use Rattle.paper.specs.PointerRules.{steps}
-use Rattle.strips.specs.Running.{running-length}
-use Rattle.pointer.specs.Asks.{pagesIn}
-use Rattle.strips.specs.Words.{sums-size}
-use Rattle.pointer.proofs.Lowers.{Lowering, lowering-first, step-place, step-on, step-stop}
+use Rattle.pointer.proofs.Scale.{page-few, page-small}
+use Rattle.pointer.proofs.Lowers.{Lowering, lowering-first, lowering-length, stepping, step-place, step-on, step-stop}
 use Rattle.pointer.proofs.steps.Statement.{statement}
 use Rattle.pointer.proofs.steps.Tie as tie
 
 abbrev Inv-loop : tie.InvT-loop
-Inv-loop l i sums r moves₀ count at₀ taken₀ moves at taken = Lowering (steps (pagesIn l sums) i) i r count moves₀ moves at taken
+Inv-loop l i sums r moves₀ count from at₀ taken₀ moves at taken = Lowering (stepping l i sums) i r count moves₀ moves at taken
 
 abbrev μ-loop : tie.MeasureT-loop
-μ-loop l i sums r moves₀ count at₀ taken₀ moves at taken = at
+μ-loop l i sums r moves₀ count from at₀ taken₀ moves at taken = at
 
 loop-holds : tie.Need-loop-holds Inv-loop μ-loop
-loop-holds c = lowering-first _ _ _ _ _ (c .before .before .pre .above) (c .before .before .pre .enough)
+loop-holds c =
+    let pre = c .before .before .before .pre in
+    lowering-first (pre .page .above) (pre .enough)
 
-gap-requires : tie.Need-gap-requires Inv-loop μ-loop
-gap-requires c κs = record { is = c .before .before .before .pre .held .is; order = c .loop .inv .above; within = omega (arith, c .loop .inv .below, c .before .before .before .pre .within) }
+add-if1 : tie.Need-add-if1 Inv-loop μ-loop
+add-if1 c =
+    let pre = c .before .before .before .before .before .pre in
+    omega (arith, page-small (pre .page) .1)
 
-sub-at : tie.Need-sub-at Inv-loop μ-loop
-sub-at c = omega (arith, c .before .before .before .loop .inv .above)
-
-cast-t9 : tie.Need-cast-t9 Inv-loop μ-loop
-cast-t9 c = omega (arith, c .before .before .before .before .loop .inv .below, c .before .before .before .before .before .before .before .pre .within, sums-size _ _ (c .before .before .before .before .before .before .before .pre .held .is), c .before .before .before .before .before .before .before .pre .held .passed .few)
+cast-t13 : tie.Need-cast-t13 Inv-loop μ-loop
+cast-t13 c =
+    let pre = c .before .before .before .before .before .before .before .before .pre in
+    omega (arith, page-few (pre .page))
 
 put-requires : tie.Need-put-requires Inv-loop μ-loop
 put-requires c κs =
-    record {
-      place = omega (arith, step-place _ _ _ _ _ _ _ _ _ (c .before .before .before .before .loop .inv) _ (c .before .before .before .gap .ensures) (c .before .if1 .taken) (c .before .before .before .before .before .before .before .pre .enough), running-length _ _ _ _ _ (c .before .before .before .before .loop .inv .run));
-      index = omega (arith, c .before .before .before .before .loop .inv .below, c .before .before .before .before .before .before .before .pre .within, sums-size _ _ (c .before .before .before .before .before .before .before .pre .held .is), c .before .before .before .before .before .before .before .pre .held .passed .few);
-    }
-
-add-taken : tie.Need-add-taken Inv-loop μ-loop
-add-taken c = omega (arith, step-place _ _ _ _ _ _ _ _ _ (c .before .before .before .before .before .before .before .loop .inv) _ (c .before .before .before .before .before .before .gap .ensures) (c .before .before .before .before .if1 .taken) (c .before .before .before .before .before .before .before .before .before .before .pre .enough), c .before .before .before .before .before .before .before .before .before .before .good)
-
-loop-less : tie.Need-loop-less Inv-loop μ-loop
-loop-less c = omega (arith, c .before .before .before .before .before .before .before .loop .inv .above)
+    let inv = c .before .before .before .before .loop .inv in
+    let pre = c .before .before .before .before .before .before .before .before .pre in
+    let place = step-place pre inv (c .before .if1 .taken) in
+    record { place = omega (arith, lowering-length inv); index = omega (arith, page-few (pre .page)) }
 
 loop-again : tie.Need-loop-again Inv-loop μ-loop
-loop-again c = step-on _ _ _ _ _ _ _ _ _ (c .before .before .before .before .before .before .before .loop .inv) _ (c .before .before .before .before .before .before .gap .ensures) (c .before .before .before .before .if1 .taken) (c .before .before .before .before .before .before .before .before .before .before .pre .enough) _ (c .before .before .put .ensures)
+loop-again c =
+    let turn = c .before .before .before .before .before .before .before in
+    let pre = turn .before .before .before .before .pre in
+    step-on pre (turn .loop .inv) (c .before .before .before .before .if1 .taken) (c .before .before .put .ensures)
 
 same-length : tie.Need-same-length Inv-loop μ-loop
-same-length c = running-length _ _ _ _ _ (c .before .before .before .loop .inv .run)
+same-length c = lowering-length (c .before .before .before .loop .inv)
 
 returns : tie.Need-returns Inv-loop μ-loop
-returns c = step-stop _ _ _ _ _ _ _ _ _ (c .before .before .before .loop .inv) _ (c .before .before .gap .ensures) (c .if1 .left)
+returns c =
+    let pre = c .before .before .before .before .before .before .before .pre in
+    step-stop pre (c .before .before .before .loop .inv) (c .if1 .left)
 
 pub steps-spec : {M : Type 1} → statement M
 steps-spec =
@@ -54,13 +54,18 @@ steps-spec =
     (tie.spec
     Inv-loop
     μ-loop
+    (λ c. search needs)
+    (λ c. search needs)
     loop-holds
-    gap-requires
-    sub-at
-    cast-t9
+    add-if1
+    (λ c. search needs)
+    (λ c. search needs)
+    (λ c. search needs)
+    (λ c. search needs)
+    cast-t13
     put-requires
-    add-taken
-    loop-less
+    (λ c. search needs)
+    (λ c. search needs)
     loop-again
     same-length
     returns)
