@@ -41,7 +41,7 @@ pub record TellsJob (t : ToldJob) (r : JobNumbers) : Type 0 where
 
 pub record JobPromise (o : ReadOutcome) (r : JobNumbers) (exit : List ℕ) : Type 0 where
   pub tells : TellsJob (toldJob (o .answer)) r
-  pub lengths : exit ≡ o .lengths
+  pub lengths : exit ≡ o .strips
 
 -- ---- any two outcomes that satisfy a promise agree
 pub tells-agree : {t : Told} {a b : Numbers} → Tells t a → Tells t b → a ≡ b

@@ -6,6 +6,7 @@ use native.Mathlib.Omega.{arith}
 use borrow.Author.Tests.{le-leb, lt-leb, le-ltb, lt-ltb, ne-eqb}
 use lib.ListN.{length, getD, drop, length-drop}
 use Rattle.laws.specs.Strip.{over, over-front}
+use Rattle.laws.specs.Outcome.{Promise, Is}
 use Rattle.paper.specs.Allowed.{mostWords}
 use Rattle.paper.specs.declared.Refusal.{Refusal}
 use Rattle.paper.specs.declared.Refusal.the-variants.{Many, Room, Job as Malformed}
@@ -13,7 +14,6 @@ use Rattle.job.specs.declared.Asked.{Asked}
 use Rattle.job.specs.declared.Job.the-variants.{Read, Refused}
 use Rattle.job.specs.Reader.{Reading, refuse, accept, section, counted, toEnd, lengthsFrom, lengthsAfter, four, two, limitsFrom, reading, outcome}
 use Rattle.job.specs.Section.{listed, SectionIs}
-use Rattle.job.specs.Promise.{Promise}
 use Rattle.job.proofs.Numbers.{length-listed, numbers-whole, numbers-cut}
 
 -- ---- a section as the section reader leaves it, cut or whole: the strip
@@ -50,13 +50,13 @@ module _ (job : List ℕ) (at : ℕ) {part : List ℕ} (from : part ≡ drop at 
   count-whole h made = section-whole job at from s h (λ xs. made (getD xs 0 0)) ∙ ap made (sym (section-entry s h 0 (omega arith)))
 
 -- ---- answers
-pub refused : (o : Reading) (r : Refusal) (s t : List ℕ) → o ≡ refuse r → t ≡ s → Promise (outcome o s) (Refused r) t
+pub refused : (o : Reading) (r : Refusal) (s t : List ℕ) → o ≡ refuse r → t ≡ s → Promise Is (outcome o s) (Refused r) t
 unfolding outcome
-refused o r s t e f = rw e (record { answered = refl; left = f })
+refused o r s t e f = rw e (record { tells = refl; strips = f })
 
-pub accepted : (o : Reading) (asked : Asked) (ws s t : List ℕ) (n : ℕ) → o ≡ accept asked ws → n ≡ length ws → t ≡ over ws s → Promise (outcome o s) (Read asked n) t
+pub accepted : (o : Reading) (asked : Asked) (ws s t : List ℕ) (n : ℕ) → o ≡ accept asked ws → n ≡ length ws → t ≡ over ws s → Promise Is (outcome o s) (Read asked n) t
 unfolding outcome
-accepted o asked ws s t n e f g = rw (e, f) (record { answered = refl; left = g })
+accepted o asked ws s t n e f g = rw (e, f) (record { tells = refl; strips = g })
 
 -- ---- the lengths
 module _ (job : List ℕ) (room : ℕ) (asked : Asked) (at n : ℕ) where

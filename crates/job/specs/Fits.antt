@@ -9,13 +9,14 @@ use lib.Dec.{ltb, eqb}
 use lib.ListN.{length, getD, drop}
 use Rattle.laws.specs.Number.{if}
 use Rattle.laws.specs.Strip.{over, length-over}
+use Rattle.laws.specs.Outcome.{Promise, Is}
 use Rattle.paper.specs.declared.Refusal.the-variants.{Job as Malformed}
 use Rattle.paper.specs.Allowed.{mostWords}
 use Rattle.job.specs.declared.Asked.{Asked}
 use Rattle.job.specs.declared.Job.{Job}
 use Rattle.job.specs.declared.Job.the-variants.{Read}
 use Rattle.job.specs.Reader.{Reading, refuse, accept, number, numbers, section, counted, toEnd, lengthsFrom, lengthsAfter, four, two, limitsFrom, reading, readOutcome}
-use Rattle.job.specs.Promise.{Promise, accepted-writes}
+use Rattle.job.specs.Promise.{accepted-writes}
 
 -- What holds of every JOB, and of what is made of any n numbers, holds of what is made of n numbers of a part.
 pub numbers-all : (P : Reading → Type 0) → ((a : ℕ) → P (refuse (Malformed a))) → (at : ℕ) (part : List ℕ) (n : ℕ) (made : List ℕ → Reading) →
@@ -67,7 +68,7 @@ pub record ReadFits (s : List ℕ) (n : ℕ) (t : List ℕ) : Type 0 where
   pub after : n ≤ length t
   pub few : n ≤ mostWords
 
-pub read-fits : (job s : List ℕ) {r : Job} {t : List ℕ} {asked : Asked} {n : ℕ} → Promise (readOutcome job s) r t → r ≡ Read asked n → ReadFits s n t
+pub read-fits : (job s : List ℕ) {r : Job} {t : List ℕ} {asked : Asked} {n : ℕ} → Promise Is (readOutcome job s) r t → r ≡ Read asked n → ReadFits s n t
 unfolding readOutcome
 read-fits job s {t = t} {asked = asked} p e =
     let a = accepted-writes (reading job (length s)) s p e in

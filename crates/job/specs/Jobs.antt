@@ -37,16 +37,16 @@ index27 n = Read (Index (record { lmin = 2; lmax = 7 })) n
 
 -- ---- jobs that are read: the n lengths are written, and no entry past them. "A count of 0 lengths is read".
 pub read-jobs : map (λ (job : List ℕ). readOutcome job nines) (P1 ∷ G1 ∷ bytes (2 ∷ 2 ∷ 7 ∷ 0 ∷ []) ∷ [])
-    ≡ record { answer = Read (Paragraph (record { lmin = 1; lopt = 6; lmax = 6; a = 1 })) 4; lengths = 3 ∷ 2 ∷ 2 ∷ 5 ∷ 9 ∷ 9 ∷ [] }
-    ∷ record { answer = index27 4; lengths = 3 ∷ 4 ∷ 2 ∷ 5 ∷ 9 ∷ 9 ∷ [] }
-    ∷ record { answer = index27 0; lengths = nines }
+    ≡ record { answer = Read (Paragraph (record { lmin = 1; lopt = 6; lmax = 6; a = 1 })) 4; strips = 3 ∷ 2 ∷ 2 ∷ 5 ∷ 9 ∷ 9 ∷ [] }
+    ∷ record { answer = index27 4; strips = 3 ∷ 4 ∷ 2 ∷ 5 ∷ 9 ∷ 9 ∷ [] }
+    ∷ record { answer = index27 0; strips = nines }
     ∷ []
 unfolding readOutcome outcome reading limitsFrom four two lengthsAfter lengthsFrom toEnd counted section numbers over
 read-jobs = refl
 
 -- "n 4,096 read"
 pub read-most : readOutcome (bytes (2 ∷ 2 ∷ 7 ∷ []) ++ (0 ∷ 16 ∷ 0 ∷ 0 ∷ replicate 16384 0)) (replicate 4096 9)
-    ≡ record { answer = index27 4096; lengths = replicate 4096 0 }
+    ≡ record { answer = index27 4096; strips = replicate 4096 0 }
 unfolding readOutcome outcome reading limitsFrom four two lengthsAfter lengthsFrom toEnd counted section numbers over
 read-most = refl
 
@@ -75,7 +75,7 @@ unfolding readOutcome outcome reading limitsFrom four two lengthsAfter lengthsFr
 many-and-room = refl
 
 -- "A refused read leaves the lengths strip unchanged and returns zero for limits and n."
-pub short-strip : readOutcome P1 (9 ∷ 9 ∷ 9 ∷ []) ≡ record { answer = Refused (Room 1); lengths = 9 ∷ 9 ∷ 9 ∷ [] }
+pub short-strip : readOutcome P1 (9 ∷ 9 ∷ 9 ∷ []) ≡ record { answer = Refused (Room 1); strips = 9 ∷ 9 ∷ 9 ∷ [] }
 unfolding readOutcome outcome reading limitsFrom four two lengthsAfter lengthsFrom toEnd counted section numbers
 short-strip = refl
 

@@ -6,6 +6,7 @@ use lib.Dec.{ltb, eqb}
 use lib.ListN.{length, getD, drop}
 use Rattle.laws.specs.Number.{if}
 use Rattle.laws.specs.Strip.{over}
+use Rattle.laws.specs.Outcome.{Outcome}
 use Rattle.paper.specs.declared.Refusal.{Refusal}
 use Rattle.paper.specs.declared.Refusal.the-variants.{Many, Room, Job as Malformed}
 use Rattle.paper.specs.Allowed.{mostWords}
@@ -78,14 +79,13 @@ unfoldable pub reading : List ℕ → ℕ → Reading
 reading job room = counted job 0 (limitsFrom job room)
 
 -- ---- the outcome: the answer, and the lengths strip at exit
-pub record ReadOutcome : Type 0 where
-  pub answer : Job
-  pub lengths : List ℕ
+abbrev pub ReadOutcome : Type 0
+ReadOutcome = Outcome Job (List ℕ)
 
 -- "A refused read leaves the lengths strip unchanged [..]. An accepted read writes the n lengths and no entry past them."
 unfoldable pub outcome : Reading → List ℕ → ReadOutcome
-outcome (refuse r) s = record { answer = Refused r; lengths = s }
-outcome (accept asked ws) s = record { answer = Read asked (length ws); lengths = over ws s }
+outcome (refuse r) s = record { answer = Refused r; strips = s }
+outcome (accept asked ws) s = record { answer = Read asked (length ws); strips = over ws s }
 
 unfoldable pub readOutcome : List ℕ → List ℕ → ReadOutcome
 readOutcome job s = outcome (reading job (length s)) s

@@ -7,7 +7,7 @@ ghost use Prim.Native.Nat.{_+_, _≤_, _<_};
 ghost use lib.ListN.{length};
 ghost use Rattle.job.specs.Reader.{number, lengthsFrom, lengthsAfter, limitsFrom, outcome, readOutcome};
 ghost use Rattle.job.specs.Section.{SectionIs};
-ghost use Rattle.job.specs.Promise.{Promise};
+ghost use Rattle.laws.specs.Outcome.{Promise, Is};
 
 // What a job asks for, with its limits.
 pub enum Asked {
@@ -60,7 +60,7 @@ fn section(part: &[u8], n: usize, out: &mut [u32]) -> usize
 // The n lengths from byte at on, and then the end of the job.
 fn lengths_from(job: &[u8], asked: Asked, at: usize, count: u32, lengths: &mut [u32]) -> Job
     requires { ⌜ at ≤ length (now job) ⌝ }
-    ensures { λ r. ⌜ Promise
+    ensures { λ r. ⌜ Promise Is
         (outcome (lengthsFrom (now (job .entry)) (length (now (lengths .entry))) asked at count) (now (lengths .entry)))
         r (now (lengths .exit)) ⌝ }
 {
@@ -85,7 +85,7 @@ fn lengths_from(job: &[u8], asked: Asked, at: usize, count: u32, lengths: &mut [
 // The lengths, whose count stands at byte at.
 fn lengths_after(job: &[u8], at: usize, asked: Asked, lengths: &mut [u32]) -> Job
     requires { ⌜ at ≤ length (now job) ⌝ }
-    ensures { λ r. ⌜ Promise
+    ensures { λ r. ⌜ Promise Is
         (outcome (lengthsAfter (now (job .entry)) (length (now (lengths .entry))) at asked) (now (lengths .entry)))
         r (now (lengths .exit)) ⌝ }
 {
@@ -99,7 +99,7 @@ fn lengths_after(job: &[u8], at: usize, asked: Asked, lengths: &mut [u32]) -> Jo
 // A paragraph's limits, from byte 4 on, and then its lengths.
 fn paragraph(job: &[u8], lengths: &mut [u32]) -> Job
     requires { ⌜ 4 ≤ length (now job) ⌝ }
-    ensures { λ r. ⌜ Promise
+    ensures { λ r. ⌜ Promise Is
         (outcome (limitsFrom (now (job .entry)) (length (now (lengths .entry))) 4) (now (lengths .entry)))
         r (now (lengths .exit)) ⌝ }
 {
@@ -120,7 +120,7 @@ fn paragraph(job: &[u8], lengths: &mut [u32]) -> Job
 // An index's limits, from byte 4 on, and then its lengths.
 fn index(job: &[u8], lengths: &mut [u32]) -> Job
     requires { ⌜ 4 ≤ length (now job) ⌝ }
-    ensures { λ r. ⌜ Promise
+    ensures { λ r. ⌜ Promise Is
         (outcome (limitsFrom (now (job .entry)) (length (now (lengths .entry))) 2) (now (lengths .entry)))
         r (now (lengths .exit)) ⌝ }
 {
@@ -138,7 +138,7 @@ fn index(job: &[u8], lengths: &mut [u32]) -> Job
 
 // The whole job. A refused read writes nothing.
 pub fn read(job: &[u8], lengths: &mut [u32]) -> Job
-    ensures { λ r. ⌜ Promise (readOutcome (now (job .entry)) (now (lengths .entry))) r (now (lengths .exit)) ⌝ }
+    ensures { λ r. ⌜ Promise Is (readOutcome (now (job .entry)) (now (lengths .entry))) r (now (lengths .exit)) ⌝ }
 {
     let mut count = [0u32; 1];
     if section(job, 1, &mut count) < 1 {

@@ -26,7 +26,8 @@ use Rattle.refusals.specs.declared.Reason.{Reason}
 use Rattle.refusals.specs.Tells.{Tells}
 use Rattle.listing.specs.Listing as Listing
 use Rattle.listing.specs.Listing.{refused, refusal, indexRows, indexListing}
-use Rattle.listing.specs.Promise.{Promise, outcome}
+use Rattle.laws.specs.Outcome.{Promise, Is}
+use Rattle.listing.specs.Promise.{outcome}
 use Rattle.listing.specs.Size.{setting-count, index-size}
 use Rattle.listing.specs.Asks.{Item, PagesAsk}
 use Rattle.listing.proofs.Settings.{Unset, set-not, all-long, roomy, front-is}
@@ -104,7 +105,7 @@ module _ (l : PageLimits) (ws : List ℕ) (s : IndexStrips) where
 
     module _ (a : Answer) (t : IndexStrips) (p : IndexPromise (indexOutcome l ws s) a t) where
       pub pages-unset : Unset a → (r : Reason) → Tells (told a .number) (told a .place) r → (o : List ℕ) {x : Listed} {u : List ℕ} →
-          Promise (outcome (refused (r .number) (r .place)) o) x u → Promise (outcome (indexListing l ws) o) x u
+          Promise Is (outcome (refused (r .number) (r .place)) o) x u → Promise Is (outcome (indexListing l ws) o) x u
       unfolding indexListing
       pages-unset u r tells o q =
           rw (unset-checked (checked (pageLimitsHold l) ws [] []) a (p .answered ∙ ap (λ (o : IndexOutcome). o .answer) outcome-is) u, ← tells .is-number, ← tells .is-place) q
@@ -148,6 +149,6 @@ module _ (l : PageLimits) (ws : List ℕ) (s : IndexStrips) where
               room = record { fits = rw (given .taken) (omega (arith, index-size l ws (given .passed) total (given .cost))) };
             })
 
-        pub pages-given : (o : List ℕ) {x : Listed} {u : List ℕ} → Promise (outcome (indexRows ws (take lines (t .boundaries)) total moves) o) x u →
-            Promise (outcome (indexListing l ws) o) x u
+        pub pages-given : (o : List ℕ) {x : Listed} {u : List ℕ} → Promise Is (outcome (indexRows ws (take lines (t .boundaries)) total moves) o) x u →
+            Promise Is (outcome (indexListing l ws) o) x u
         pages-given o q = rw (given .listing) (rw boundaries-are at q)

@@ -21,7 +21,8 @@ use Rattle.listing.specs.declared.Listed.{Listed}
 use Rattle.refusals.specs.declared.Reason.{Reason}
 use Rattle.refusals.specs.Tells.{Tells}
 use Rattle.listing.specs.Listing.{refused, paragraphRows, paragraphListing}
-use Rattle.listing.specs.Promise.{Promise, outcome}
+use Rattle.laws.specs.Outcome.{Promise, Is}
+use Rattle.listing.specs.Promise.{outcome}
 use Rattle.listing.specs.Size.{setting-count, paragraph-size}
 use Rattle.listing.specs.Asks.{Line, Starts, RowsAsk}
 use Rattle.listing.proofs.Settings.{Unset, Lent, front-is, ParagraphGiven, paragraph-unset, paragraph-given}
@@ -47,7 +48,7 @@ zeros =
 module _ (l : Limits) (ws : List ℕ) (s : ParagraphStrips) (lent : Lent s) (a : Answer) (t : ParagraphStrips) (p : ParagraphPromise (paragraphOutcome l ws s) a t) where
   -- ---- no setting
   pub list-unset : Unset a → (r : Reason) → Tells (told a .number) (told a .place) r → (o : List ℕ) {x : Listed} {u : List ℕ} →
-      Promise (outcome (refused (r .number) (r .place)) o) x u → Promise (outcome (paragraphListing l ws) o) x u
+      Promise Is (outcome (refused (r .number) (r .place)) o) x u → Promise Is (outcome (paragraphListing l ws) o) x u
   list-unset u r tells o q = rw (paragraph-unset l ws s lent a t p u, ← tells .is-number, ← tells .is-place) q
 
   -- ---- a setting
@@ -98,6 +99,6 @@ module _ (l : Limits) (ws : List ℕ) (s : ParagraphStrips) (lent : Lent s) (a :
           room = record { fits = rw (given .taken) (omega (arith, paragraph-size l ws (given .passed) total (given .cost))) };
         })
 
-    pub list-given : (o : List ℕ) {x : Listed} {u : List ℕ} → Promise (outcome (paragraphRows l ws (take lines (t .breaks)) total moves) o) x u →
-        Promise (outcome (paragraphListing l ws) o) x u
+    pub list-given : (o : List ℕ) {x : Listed} {u : List ℕ} → Promise Is (outcome (paragraphRows l ws (take lines (t .breaks)) total moves) o) x u →
+        Promise Is (outcome (paragraphListing l ws) o) x u
     list-given o q = rw (given .listing) (rw breaks-are at q)

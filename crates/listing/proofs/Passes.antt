@@ -22,24 +22,25 @@ use Rattle.listing.specs.declared.Listed.the-variants.{Written, Short}
 use Rattle.listing.specs.Listing.{refused}
 use Rattle.refusals.specs.declared.Reason.{Reason}
 use Rattle.refusals.specs.Tells.{Tells}
-use Rattle.listing.specs.Promise.{Promise, outcome}
+use Rattle.laws.specs.Outcome.{Promise, Is}
+use Rattle.listing.specs.Promise.{outcome}
 
 module _ {bytes : List ℕ} {size : ℕ} {t : List ℕ} (s : List ℕ) (counted : Puts bytes 0 [] size t) where
   pub back : t ++ s ≡ s
   back = ap (λ (l : List ℕ). l ++ s) (puts-counted counted)
 
-  pub too-short : length (t ++ s) < size → Promise (outcome bytes s) (Short size) (t ++ s)
+  pub too-short : length (t ++ s) < size → Promise Is (outcome bytes s) (Short size) (t ++ s)
   unfolding outcome
   too-short h =
       let e : size ≡ length bytes = omega (arith, counted .place) in
-      rw (back, lt-leb (length bytes) (length s) (omega (arith, ap length back)), e) (record { answered = refl; left = refl })
+      rw (back, lt-leb (length bytes) (length s) (omega (arith, ap length back)), e) (record { tells = refl; strips = refl })
 
-  pub all-written : size ≤ length (t ++ s) → {next : ℕ} {u : List ℕ} → Puts bytes 0 (t ++ s) next u → Promise (outcome bytes s) (Written size) u
+  pub all-written : size ≤ length (t ++ s) → {next : ℕ} {u : List ℕ} → Puts bytes 0 (t ++ s) next u → Promise Is (outcome bytes s) (Written size) u
   unfolding outcome
   all-written h p =
       let e : size ≡ length bytes = omega (arith, counted .place) in
       let room : length bytes ≤ length s = omega (arith, ap length back) in
-      rw (le-leb (length bytes) (length s) room, e) (record { answered = refl; left = puts-over (rw back at p) room })
+      rw (le-leb (length bytes) (length s) room, e) (record { tells = refl; strips = puts-over (rw back at p) room })
 
 -- ---- the row of a refusal
 pub refused-fits : (number place : ℕ) → number < 2 ^ 64 → place < 2 ^ 64 → Fits 0 (refused number place)

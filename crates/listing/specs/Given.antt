@@ -27,7 +27,8 @@ use Rattle.job.specs.First.{reading-first}
 use Rattle.listing.specs.declared.Listed.{Listed}
 use Rattle.listing.specs.declared.Listed.the-variants.{Written, Short}
 use Rattle.listing.specs.Listing.{refused, refusal, paragraphRows, paragraphSet, paragraphChecked, paragraphListing, indexRows, indexSet, indexChecked, indexListing, listed, listingOf}
-use Rattle.listing.specs.Promise.{Promise, outcome}
+use Rattle.laws.specs.Outcome.{Promise, Is}
+use Rattle.listing.specs.Promise.{outcome}
 
 -- ---- a job that is not read
 pub listed-unread : (job : List ℕ) (r : Refusal) → reading job mostWords ≡ refuse r → listingOf job ≡ refusal r
@@ -70,23 +71,23 @@ module _ (job : List ℕ) (l : PageLimits) (ws : List ℕ) (read : reading job m
   index-set e total f = rw (read, e, f)
 
 -- ---- the buffer
-module _ (bytes s : List ℕ) {r : Listed} {t : List ℕ} (p : Promise (outcome bytes s) r t) where
+module _ (bytes s : List ℕ) {r : Listed} {t : List ℕ} (p : Promise Is (outcome bytes s) r t) where
   -- with room: the bytes stand at the front, and the rest is as it was
   pub with-room : length bytes ≤ length s → (r ≡ Written (length bytes)) × (take (length bytes) t ≡ bytes) × (drop (length bytes) t ≡ drop (length bytes) s)
   unfolding outcome over
   with-room h =
-      let q : Promise (record { answer = Written (length bytes); out = over bytes s }) r t = rw (le-leb (length bytes) (length s) h) at p in (
-        q .answered,
-        ap (take (length bytes)) (q .left) ∙ take-append-seam bytes (drop (length bytes) s),
-        ap (drop (length bytes)) (q .left) ∙ drop-append-seam bytes (drop (length bytes) s),
+      let q : Promise Is (record { answer = Written (length bytes); strips = over bytes s }) r t = rw (le-leb (length bytes) (length s) h) at p in (
+        q .tells,
+        ap (take (length bytes)) (q .strips) ∙ take-append-seam bytes (drop (length bytes) s),
+        ap (drop (length bytes)) (q .strips) ∙ drop-append-seam bytes (drop (length bytes) s),
       )
 
   -- "A buffer that is too short gets a clear answer, and is left unchanged."
   pub without-room : length s < length bytes → (r ≡ Short (length bytes)) × (t ≡ s)
   unfolding outcome
   without-room h =
-      let q : Promise (record { answer = Short (length bytes); out = s }) r t = rw (lt-leb (length bytes) (length s) h) at p in
-      (q .answered, q .left)
+      let q : Promise Is (record { answer = Short (length bytes); strips = s }) r t = rw (lt-leb (length bytes) (length s) h) at p in
+      (q .tells, q .strips)
 
   -- what is written lies in the buffer
   pub written-within : (n : ℕ) → r ≡ Written n → n ≤ length t

@@ -29,7 +29,8 @@ use Rattle.rows.specs.Size.{row-two}
 use Rattle.listing.specs.declared.Listed.{Listed}
 use Rattle.listing.specs.declared.Listed.the-variants.{Written}
 use Rattle.listing.specs.Listing.{refused, refusal, paragraphSet, paragraphChecked, paragraphListing, indexSet, indexChecked, indexListing, listed, listingOf}
-use Rattle.listing.specs.Promise.{Promise, outcome}
+use Rattle.laws.specs.Outcome.{Promise, Is}
+use Rattle.listing.specs.Promise.{outcome}
 use Rattle.listing.specs.Given.{with-room}
 use Rattle.listing.specs.Size.{mostBytes, paragraph-size, index-size}
 
@@ -116,5 +117,5 @@ unfolding listingOf
 listing-size job = listed-size (reading job mostWords) (reading-told job mostWords)
 
 -- A buffer of so many bytes always gets the listing.
-pub always-written : (job s : List ℕ) {r : Listed} {t : List ℕ} → mostBytes ≤ length s → Promise (outcome (listingOf job) s) r t → r ≡ Written (length (listingOf job))
+pub always-written : (job s : List ℕ) {r : Listed} {t : List ℕ} → mostBytes ≤ length s → Promise Is (outcome (listingOf job) s) r t → r ≡ Written (length (listingOf job))
 always-written job s room p = with-room (listingOf job) s p (omega (arith, listing-size job)) .0

@@ -13,7 +13,8 @@ use strips::wide;
 ghost use Rattle.rows.specs.Puts.{Puts};
 ghost use Rattle.listing.specs.Listing.{boundaryRow, boundaryRows, indexRows, indexListing};
 ghost use Rattle.listing.specs.Asks.{BoundaryAsks, BoundariesAsk, PagesAsk};
-ghost use Rattle.listing.specs.Promise.{outcome, Promise};
+ghost use Rattle.listing.specs.Promise.{outcome};
+ghost use Rattle.laws.specs.Outcome.{Promise, Is};
 
 // Puts the row of the boundary b.
 fn boundary_row(lengths: &[u32], b: usize, out: &mut [u8], at: usize) -> usize
@@ -72,7 +73,7 @@ fn list_pages(
     out: &mut [u8],
 ) -> Listed
     requires { ⌜ PagesAsk (now lengths) (now boundaries) total moves ⌝ }
-    ensures { λ r. ⌜ Promise (outcome (indexRows (now (lengths .entry)) (now (boundaries .entry)) total moves) (now (out .entry))) r (now (out .exit)) ⌝ }
+    ensures { λ r. ⌜ Promise Is (outcome (indexRows (now (lengths .entry)) (now (boundaries .entry)) total moves) (now (out .entry))) r (now (out .exit)) ⌝ }
 {
     let size = index_rows(lengths, boundaries, total, moves, &mut out[..0]);
     if out.len() < size {
@@ -84,7 +85,7 @@ fn list_pages(
 
 // Lists an index, or the refusal.
 pub fn list_index(l: PageLimits, lengths: &[u32], out: &mut [u8]) -> Listed
-    ensures { λ r. ⌜ Promise (outcome (indexListing l (now (lengths .entry))) (now (out .entry))) r (now (out .exit)) ⌝ }
+    ensures { λ r. ⌜ Promise Is (outcome (indexListing l (now (lengths .entry))) (now (out .entry))) r (now (out .exit)) ⌝ }
 {
     let mut sums = [0u32; 4097];
     let mut best = [0u64; 4098];

@@ -23,7 +23,8 @@ ghost use Rattle.paper.specs.Paragraph.{penalty as formula};
 ghost use Rattle.rows.specs.Puts.{Puts};
 ghost use Rattle.listing.specs.Listing.{lineRow, lineRows, paragraphRows, paragraphListing};
 ghost use Rattle.listing.specs.Asks.{LineAsks, LinesAsk, RowsAsk};
-ghost use Rattle.listing.specs.Promise.{outcome, Promise};
+ghost use Rattle.listing.specs.Promise.{outcome};
+ghost use Rattle.laws.specs.Outcome.{Promise, Is};
 
 // The start after the k-th, or the end.
 fn next_start(breaks: &[u32], k: usize, end: usize) -> usize
@@ -130,7 +131,7 @@ fn list_set(
     out: &mut [u8],
 ) -> Listed
     requires { ⌜ RowsAsk l (now lengths) (now sums) (now breaks) total moves ⌝ }
-    ensures { λ r. ⌜ Promise (outcome (paragraphRows l (now (lengths .entry)) (now (breaks .entry)) total moves) (now (out .entry))) r (now (out .exit)) ⌝ }
+    ensures { λ r. ⌜ Promise Is (outcome (paragraphRows l (now (lengths .entry)) (now (breaks .entry)) total moves) (now (out .entry))) r (now (out .exit)) ⌝ }
 {
     let size = paragraph_rows(l, lengths, sums, breaks, total, moves, &mut out[..0]);
     if out.len() < size {
@@ -142,7 +143,7 @@ fn list_set(
 
 // Lists a paragraph, or the refusal.
 pub fn list_paragraph(l: Limits, lengths: &[u32], out: &mut [u8]) -> Listed
-    ensures { λ r. ⌜ Promise (outcome (paragraphListing l (now (lengths .entry))) (now (out .entry))) r (now (out .exit)) ⌝ }
+    ensures { λ r. ⌜ Promise Is (outcome (paragraphListing l (now (lengths .entry))) (now (out .entry))) r (now (out .exit)) ⌝ }
 {
     let mut sums = [0u32; 4097];
     let mut best = [0u64; 4097];

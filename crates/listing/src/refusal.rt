@@ -8,7 +8,8 @@ use rows::named;
 ghost use Rattle.paper.specs.Told.{told};
 ghost use Rattle.job.specs.Promise.{toldJob};
 ghost use Rattle.listing.specs.Listing.{refused as refusedRow};
-ghost use Rattle.listing.specs.Promise.{outcome, Promise};
+ghost use Rattle.listing.specs.Promise.{outcome};
+ghost use Rattle.laws.specs.Outcome.{Promise, Is};
 ghost use Rattle.refusals.specs.Tells.{Tells};
 
 // Of a setter's answer; 0 where a setting is given.
@@ -46,7 +47,7 @@ pub fn told_job(j: Job) -> Reason
 }
 
 pub fn refused(reason: Reason, out: &mut [u8]) -> Listed
-    ensures { λ r. ⌜ Promise (outcome (refusedRow (reason .number) (reason .place)) (now (out .entry))) r (now (out .exit)) ⌝ }
+    ensures { λ r. ⌜ Promise Is (outcome (refusedRow (reason .number) (reason .place)) (now (out .entry))) r (now (out .exit)) ⌝ }
 {
     let number = reason.number as u64;
     let place = reason.place as u64;
