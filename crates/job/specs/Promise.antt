@@ -40,10 +40,12 @@ noPages = record { lmin = 0; lmax = 0 }
 unfoldable pub toldJob : Job → ToldJob
 toldJob (Read (Paragraph l) n) = record { number = 0; place = 0; count = 4; limits = l; pages = noPages; n = n }
 toldJob (Read (Index l) n) = record { number = 0; place = 0; count = 2; limits = noLimits; pages = l; n = n }
-toldJob (Refused r) = record { number = toldRefusal r .number; place = toldRefusal r .place; count = 0; limits = noLimits; pages = noPages; n = 0 }
+toldJob (Refused r) =
+    record { number = toldRefusal r .number; place = toldRefusal r .place; count = 0; limits = noLimits; pages = noPages; n = 0 }
 
 -- ---- "A refused read leaves the lengths strip unchanged"
-pub refused-unchanged : (o : Reading) (s : List ℕ) {r : Job} {t : List ℕ} (q : Refusal) → Promise Is (outcome o s) r t → r ≡ Refused q → t ≡ s
+pub refused-unchanged : (o : Reading) (s : List ℕ) {r : Job} {t : List ℕ} (q : Refusal) →
+    Promise Is (outcome o s) r t → r ≡ Refused q → t ≡ s
 unfolding outcome
 refused-unchanged (refuse q′) s q p e = p .strips
 refused-unchanged (accept asked ws) s q p e =
@@ -51,13 +53,14 @@ refused-unchanged (accept asked ws) s q p e =
     absurd (omega arith)
 
 -- ---- "An accepted read writes the n lengths and no entry past them."
-pub record Accepted (o : Reading) (s : List ℕ) (asked : Asked) (n : ℕ) (t : List ℕ) : Type 0 where
+pub record ReadInto (o : Reading) (s : List ℕ) (asked : Asked) (n : ℕ) (t : List ℕ) : Type 0 where
   pub lengths : List ℕ
   pub is : o ≡ accept asked lengths
   pub count : n ≡ length lengths
   pub written : t ≡ over lengths s
 
-pub accepted-writes : (o : Reading) (s : List ℕ) {r : Job} {t : List ℕ} {asked : Asked} {n : ℕ} → Promise Is (outcome o s) r t → r ≡ Read asked n → Accepted o s asked n t
+pub accepted-writes : (o : Reading) (s : List ℕ) {r : Job} {t : List ℕ} {asked : Asked} {n : ℕ} →
+    Promise Is (outcome o s) r t → r ≡ Read asked n → ReadInto o s asked n t
 unfolding outcome
 accepted-writes (refuse q) s p e =
     let z : _≡_ {A = ℕ} 0 1 = cc (p .tells) in

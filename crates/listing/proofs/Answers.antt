@@ -15,7 +15,7 @@ use Rattle.job.specs.declared.Job.the-variants.{Read, Refused}
 use Rattle.job.specs.Reader as Reader
 use Rattle.job.specs.Reader.{Reading, refuse, accept, reading, readOutcome}
 use Rattle.job.specs.Promise.{toldJob, accepted-writes}
-use Rattle.job.specs.Fits.{read-fits}
+use Rattle.job.specs.Bounds.{read-within}
 use Rattle.listing.specs.declared.Listed.{Listed}
 use Rattle.refusals.specs.declared.Reason.{Reason}
 use Rattle.refusals.specs.Tells.{Tells}
@@ -47,7 +47,7 @@ module _ (job s : List ℕ) (size : length s ≡ mostWords) (r : Job) (t : List 
 
   module _ (asked : Asked) (n : ℕ) (e : r ≡ Read asked n) where
     pub words-room : n ≤ length t
-    words-room = read-fits job s p e .after
+    words-room = read-within job s p e
 
     read-listed : listingOf job ≡ listed (accept asked (take n t))
     unfolding listingOf readOutcome

@@ -22,7 +22,7 @@ use Rattle.paper.specs.Told.{toldRefusal, checked, firstFailing, firstShort}
 use Rattle.refusals.specs.Accepted.{accepted}
 use Rattle.job.specs.declared.Asked.the-variants.{Paragraph as AskedParagraph, Index as AskedIndex}
 use Rattle.job.specs.Reader.{Reading, refuse, accept, reading}
-use Rattle.job.specs.Places.{Told, reading-told}
+use Rattle.job.specs.Bounds.{Within, reading-within}
 use Rattle.rows.specs.Rows.{ascii}
 use Rattle.rows.specs.Digits.{digits-width}
 use Rattle.rows.specs.Size.{row-two}
@@ -106,7 +106,7 @@ index-listing-size l ws = go (checked (pageLimitsHold l) ws [] []) refl (checked
     go Accept e p = set (accepted (pageLimitsHold l) ws [] [] e .passed) (Index.best l ws 0) refl
 
 -- ---- any job
-listed-size : (o : Reading) → Told o → length (listed o) ≤ mostBytes
+listed-size : (o : Reading) → Within mostWords o → length (listed o) ≤ mostBytes
 unfolding listed
 listed-size (refuse r) h = omega (arith, refusal-size r (omega (arith, h)))
 listed-size (accept (AskedParagraph l) ws) h = paragraph-listing-size l ws
@@ -114,7 +114,7 @@ listed-size (accept (AskedIndex l) ws) h = index-listing-size l ws
 
 pub listing-size : (job : List ℕ) → length (listingOf job) ≤ mostBytes
 unfolding listingOf
-listing-size job = listed-size (reading job mostWords) (reading-told job mostWords)
+listing-size job = listed-size (reading job mostWords) (reading-within job mostWords)
 
 -- A buffer of so many bytes always gets the listing.
 pub always-written : (job s : List ℕ) {r : Listed} {t : List ℕ} → mostBytes ≤ length s → Promise Is (outcome (listingOf job) s) r t → r ≡ Written (length (listingOf job))
