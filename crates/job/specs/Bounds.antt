@@ -38,15 +38,15 @@ unfolding announced
 announced-most count =
     either (eqb count 4) (eqb count 2) (λ e. omega (arith, eqb-true count 4 e)) (λ e. omega (arith, eqb-true count 2 e))
 
+pub if-holds : {A : Type 0} (P : A → Type 0) (b : Bool) (x y : A) → (b ≡ true → P x) → (b ≡ false → P y) → P (if b x y)
+if-holds P true x y p q = p refl
+if-holds P false x y p q = q refl
+
 abbrev pub Within : ℕ → Reading → Type 0
 Within room (refuse r) = toldRefusal r .place ≤ longest
 Within room (accept asked ws) = (length ws ≤ room) × (length ws ≤ mostWords)
 
 module _ (job : List ℕ) (room : ℕ) where
-  if-within : (b : Bool) (x y : Reading) → (b ≡ true → Within room x) → (b ≡ false → Within room y) → Within room (if b x y)
-  if-within true x y p q = p refl
-  if-within false x y p q = q refl
-
   section-within : (at n : ℕ) (made : List ℕ → Reading) → at + 4 * n ≤ longest → ((xs : List ℕ) → length xs ≡ n → Within room (made xs)) →
       Within room (section job at n made)
   unfolding toldRefusal
@@ -59,8 +59,9 @@ module _ (job : List ℕ) (room : ℕ) where
   lengths-within : (asked : Asked) (at n : ℕ) → at ≤ 8 + 4 * mostLimits → Within room (lengthsFrom job room asked at n)
   unfolding lengthsFrom toEnd toldRefusal
   lengths-within asked at n h =
-      if-within (ltb mostWords n) _ _ (λ many. omega arith) (λ few. if-within (ltb room n) _ _ (λ short. omega arith) (λ fits.
-      section-within at n _ (omega (arith, ltb-false mostWords n few)) (λ ws e. if-within (ltb (at + 4 * n) (length job)) _ _
+      let step = if-holds (Within room) in
+      step (ltb mostWords n) _ _ (λ many. omega arith) (λ few. step (ltb room n) _ _ (λ short. omega arith) (λ fits.
+      section-within at n _ (omega (arith, ltb-false mostWords n few)) (λ ws e. step (ltb (at + 4 * n) (length job)) _ _
       (λ left. omega (arith, ltb-false mostWords n few)) (λ end. omega (arith, ltb-false room n fits, ltb-false mostWords n few)))))
 
   after-within : (at : ℕ) (asked : Asked) → at ≤ 4 + 4 * mostLimits → Within room (lengthsAfter job room at asked)
@@ -70,7 +71,7 @@ module _ (job : List ℕ) (room : ℕ) where
   pub reading-within : Within room (reading job room)
   unfolding reading counted limitsFrom toldRefusal
   reading-within =
-      section-within 0 1 _ (omega arith) (λ xs e. if-within (announced _) _ _
+      section-within 0 1 _ (omega arith) (λ xs e. if-holds (Within room) (announced _) _ _
       (λ f. section-within 4 _ _ (omega (arith, announced-most _ f)) (λ l g. after-within _ (askedBy _ l)
       (omega (arith, announced-most _ f))))
       (λ other. omega arith))

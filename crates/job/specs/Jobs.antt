@@ -14,15 +14,15 @@ use Rattle.job.specs.Reader.{announced, askedBy, limitsFrom, reading, ou
 use Rattle.job.specs.Promise.{toldJob, noLimits, noPages}
 
 -- numbers below 256 as a job has them
-abbrev bytes : List ℕ → List ℕ
+abbrev pub bytes : List ℕ → List ℕ
 bytes [] = []
 bytes (x ∷ xs) = x ∷ 0 ∷ 0 ∷ 0 ∷ bytes xs
 
 -- "the numbers 4 1 6 6 1 4 3 2 2 5" and "2 2 7 4 3 4 2 5"
-abbrev P1 : List ℕ
+abbrev pub P1 : List ℕ
 P1 = bytes (4 ∷ 1 ∷ 6 ∷ 6 ∷ 1 ∷ 4 ∷ 3 ∷ 2 ∷ 2 ∷ 5 ∷ [])
 
-abbrev G1 : List ℕ
+abbrev pub G1 : List ℕ
 G1 = bytes (2 ∷ 2 ∷ 7 ∷ 4 ∷ 3 ∷ 4 ∷ 2 ∷ 5 ∷ [])
 
 -- the reader, with all that it rests on open

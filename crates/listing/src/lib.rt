@@ -1,15 +1,13 @@
 // The listing of a job as bytes in a lent buffer: document 01, "Job file and listing". No function that is exported asks anything of its
 // caller.
+mod answer;
 mod heading;
-mod index;
-mod paragraph;
+mod parts;
 mod refusal;
 
-use index::list_index;
-use job::Asked;
+use answer::list_asked;
 use job::Job;
 use job::read;
-use paragraph::list_paragraph;
 use refusal::refused;
 use refusal::told_job;
 ghost use Rattle.listing.specs.Listing.{listingOf};
@@ -31,9 +29,5 @@ pub fn list(job: &[u8], out: &mut [u8]) -> Listed
     let Job::Read(asked, n) = answer else {
         return refused(told_job(answer), out);
     };
-    let words = &lengths[..n];
-    match asked {
-        Asked::Paragraph(l) => list_paragraph(l, words, out),
-        Asked::Index(l) => list_index(l, words, out),
-    }
+    list_asked(asked, &lengths[..n], out)
 }
