@@ -43,7 +43,7 @@ pub tells-agree : {t : Told} {a b : Numbers} → a ≡ inNumbers t → b ≡ inN
 tells-agree = as-single inNumbers _ _ _
 
 abbrev pub JobNumbersPromise : ReadOutcome → JobNumbers → List ℕ → Type 0
-JobNumbersPromise o = Promise (As (λ j. inJobNumbers (toldJob j))) (record { answer = o .answer; strips = o .lengths })
+JobNumbersPromise = Promise (As (λ j. inJobNumbers (toldJob j)))
 
 pub job-agree : {o : ReadOutcome} {a b : JobNumbers} {s t : List ℕ} → JobNumbersPromise o a s → JobNumbersPromise o b t → (a ≡ b) × (s ≡ t)
 job-agree = agree (as-single _)

@@ -1,3 +1,2 @@
--- The laws that the proofs of the reader cite.
-pub mod Numbers
+pub mod Sections
 pub mod Answers

@@ -9,20 +9,27 @@ use Rattle.paper.specs.Told.{toldRefusal}
 use Rattle.job.specs.declared.Asked.the-variants.{Paragraph, Index}
 use Rattle.job.specs.declared.Job.{Job}
 use Rattle.job.specs.declared.Job.the-variants.{Read, Refused}
-use Rattle.job.specs.Reader.{number, numbers, section, counted, toEnd, lengthsFrom, lengthsAfter, four, two, limitsFrom, reading, outcome, readOutcome}
+use Rattle.job.specs.Reader.{ReadOutcome, number, numbers, section, counted, toEnd, lengthsFrom, lengthsAfter}
+use Rattle.job.specs.Reader.{announced, askedBy, limitsFrom, reading, outcome, readOutcome}
 use Rattle.job.specs.Promise.{toldJob, noLimits, noPages}
 
 -- numbers below 256 as a job has them
-abbrev bytes : List ℕ → List ℕ
+abbrev pub bytes : List ℕ → List ℕ
 bytes [] = []
 bytes (x ∷ xs) = x ∷ 0 ∷ 0 ∷ 0 ∷ bytes xs
 
 -- "the numbers 4 1 6 6 1 4 3 2 2 5" and "2 2 7 4 3 4 2 5"
-abbrev P1 : List ℕ
+abbrev pub P1 : List ℕ
 P1 = bytes (4 ∷ 1 ∷ 6 ∷ 6 ∷ 1 ∷ 4 ∷ 3 ∷ 2 ∷ 2 ∷ 5 ∷ [])
 
-abbrev G1 : List ℕ
+abbrev pub G1 : List ℕ
 G1 = bytes (2 ∷ 2 ∷ 7 ∷ 4 ∷ 3 ∷ 4 ∷ 2 ∷ 5 ∷ [])
+
+-- the reader, with all that it rests on open
+unfoldable pub worked : List ℕ → List ℕ → ReadOutcome
+unfolding readOutcome outcome reading limitsFrom announced askedBy lengthsAfter
+    lengthsFrom toEnd counted section numbers over
+worked = readOutcome
 
 -- low byte first
 pub number-of-bytes : number (1 ∷ 2 ∷ 3 ∷ 4 ∷ []) 0 ≡ 67305985
@@ -37,17 +44,17 @@ index27 n = Read (Index (record { lmin = 2; lmax = 7 })) n
 
 -- ---- jobs that are read: the n lengths are written, and no entry past them. "A count of 0 lengths is read".
 pub read-jobs : map (λ (job : List ℕ). readOutcome job nines) (P1 ∷ G1 ∷ bytes (2 ∷ 2 ∷ 7 ∷ 0 ∷ []) ∷ [])
-    ≡ record { answer = Read (Paragraph (record { lmin = 1; lopt = 6; lmax = 6; a = 1 })) 4; lengths = 3 ∷ 2 ∷ 2 ∷ 5 ∷ 9 ∷ 9 ∷ [] }
-    ∷ record { answer = index27 4; lengths = 3 ∷ 4 ∷ 2 ∷ 5 ∷ 9 ∷ 9 ∷ [] }
-    ∷ record { answer = index27 0; lengths = nines }
+    ≡ record { answer = Read (Paragraph (record { lmin = 1; lopt = 6; lmax = 6; a = 1 })) 4; strips = 3 ∷ 2 ∷ 2 ∷ 5 ∷ 9 ∷ 9 ∷ [] }
+    ∷ record { answer = index27 4; strips = 3 ∷ 4 ∷ 2 ∷ 5 ∷ 9 ∷ 9 ∷ [] }
+    ∷ record { answer = index27 0; strips = nines }
     ∷ []
-unfolding readOutcome outcome reading limitsFrom four two lengthsAfter lengthsFrom toEnd counted section numbers over
+unfolding worked
 read-jobs = refl
 
 -- "n 4,096 read"
 pub read-most : readOutcome (bytes (2 ∷ 2 ∷ 7 ∷ []) ++ (0 ∷ 16 ∷ 0 ∷ 0 ∷ replicate 16384 0)) (replicate 4096 9)
-    ≡ record { answer = index27 4096; lengths = replicate 4096 0 }
-unfolding readOutcome outcome reading limitsFrom four two lengthsAfter lengthsFrom toEnd counted section numbers over
+    ≡ record { answer = index27 4096; strips = replicate 4096 0 }
+unfolding worked
 read-most = refl
 
 -- ---- jobs that are refused
@@ -58,25 +65,27 @@ abbrev malformedAt : List ℕ → List Job
 malformedAt places = map (λ (k : ℕ). Refused (Malformed k)) places
 
 -- no byte; a first count cut short; two that are neither 4 nor 2
-pub first-counts : answers ([] ∷ (4 ∷ 0 ∷ 0 ∷ []) ∷ bytes (3 ∷ 1 ∷ 6 ∷ 6 ∷ 0 ∷ []) ∷ (4 ∷ 0 ∷ 0 ∷ 1 ∷ []) ∷ []) ≡ malformedAt (0 ∷ 0 ∷ 0 ∷ 0 ∷ [])
-unfolding readOutcome outcome reading limitsFrom four two lengthsAfter lengthsFrom toEnd counted section numbers
+pub first-counts : answers ([] ∷ (4 ∷ 0 ∷ 0 ∷ []) ∷ bytes (3 ∷ 1 ∷ 6 ∷ 6 ∷ 0 ∷ []) ∷ (4 ∷ 0 ∷ 0 ∷ 1 ∷ []) ∷ [])
+    ≡ malformedAt (0 ∷ 0 ∷ 0 ∷ 0 ∷ [])
+unfolding worked
 first-counts = refl
 
 -- cut before the limits, in the last of them, before n, in n, before the lengths, in the third of them; a byte left over
-pub cut-jobs : answers (map (λ (k : ℕ). take k P1) (4 ∷ 18 ∷ 20 ∷ 23 ∷ 24 ∷ 33 ∷ []) ++ (P1 ++ (0 ∷ [])) ∷ []) ≡ malformedAt (4 ∷ 16 ∷ 20 ∷ 20 ∷ 24 ∷ 32 ∷ 40 ∷ [])
-unfolding readOutcome outcome reading limitsFrom four two lengthsAfter lengthsFrom toEnd counted section numbers
+pub cut-jobs : answers (map (λ (k : ℕ). take k P1) (4 ∷ 18 ∷ 20 ∷ 23 ∷ 24 ∷ 33 ∷ []) ++ (P1 ++ (0 ∷ [])) ∷ [])
+    ≡ malformedAt (4 ∷ 16 ∷ 20 ∷ 20 ∷ 24 ∷ 32 ∷ 40 ∷ [])
+unfolding worked
 cut-jobs = refl
 
 -- n is 4,097, or 2^32 - 1: MANY. It is 7, or 4,096: ROOM, before the lengths that are not there.
 pub many-and-room : answers (map (λ (n : List ℕ). bytes (2 ∷ 2 ∷ 7 ∷ []) ++ n)
     ((1 ∷ 16 ∷ 0 ∷ 0 ∷ []) ∷ (255 ∷ 255 ∷ 255 ∷ 255 ∷ []) ∷ (7 ∷ 0 ∷ 0 ∷ 0 ∷ []) ∷ (0 ∷ 16 ∷ 0 ∷ 0 ∷ []) ∷ []))
     ≡ Refused Many ∷ Refused Many ∷ Refused (Room 1) ∷ Refused (Room 1) ∷ []
-unfolding readOutcome outcome reading limitsFrom four two lengthsAfter lengthsFrom toEnd counted section numbers
+unfolding worked
 many-and-room = refl
 
 -- "A refused read leaves the lengths strip unchanged and returns zero for limits and n."
-pub short-strip : readOutcome P1 (9 ∷ 9 ∷ 9 ∷ []) ≡ record { answer = Refused (Room 1); lengths = 9 ∷ 9 ∷ 9 ∷ [] }
-unfolding readOutcome outcome reading limitsFrom four two lengthsAfter lengthsFrom toEnd counted section numbers
+pub short-strip : readOutcome P1 (9 ∷ 9 ∷ 9 ∷ []) ≡ record { answer = Refused (Room 1); strips = 9 ∷ 9 ∷ 9 ∷ [] }
+unfolding worked
 short-strip = refl
 
 pub short-strip-told : toldJob (Refused (Room 1)) ≡ record { number = 5; place = 1; count = 0; limits = noLimits; pages = noPages; n = 0 }

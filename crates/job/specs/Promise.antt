@@ -1,10 +1,11 @@
 -- What the reader promises, what its answer tells, and what follows from the promise alone. Assumes nothing.
 use Prim.Native.Nat.{ℕ}
-use mathlib.Core.Path.{_≡_, sym, _∙_}
+use mathlib.Core.Path.{_≡_}
 use mathlib.Core.List.{List}
 use native.Mathlib.Omega.{arith}
 use lib.ListN.{length}
 use Rattle.laws.specs.Strip.{over}
+use Rattle.laws.specs.Outcome.{Promise, Is, agree, is-single}
 use Rattle.paper.specs.declared.Limits.{Limits}
 use Rattle.paper.specs.declared.PageLimits.{PageLimits}
 use Rattle.paper.specs.declared.Refusal.{Refusal}
@@ -13,16 +14,11 @@ use Rattle.job.specs.declared.Asked.{Asked}
 use Rattle.job.specs.declared.Asked.the-variants.{Paragraph, Index}
 use Rattle.job.specs.declared.Job.{Job}
 use Rattle.job.specs.declared.Job.the-variants.{Read, Refused}
-use Rattle.job.specs.Reader.{Reading, refuse, accept, ReadOutcome, outcome, readOutcome}
-
--- the answer and the lengths strip at exit are those of the outcome
-pub record Promise (o : ReadOutcome) (answer : Job) (lengths : List ℕ) : Type 0 where
-  pub answered : answer ≡ o .answer
-  pub left : lengths ≡ o .lengths
+use Rattle.job.specs.Reader.{Reading, refuse, accept, ReadOutcome, outcome}
 
 -- Any two outcomes that satisfy the promise agree.
-pub agree : (job s : List ℕ) {r₁ r₂ : Job} {t₁ t₂ : List ℕ} → Promise (readOutcome job s) r₁ t₁ → Promise (readOutcome job s) r₂ t₂ → (r₁ ≡ r₂) × (t₁ ≡ t₂)
-agree job s p q = (p .answered ∙ sym (q .answered), p .left ∙ sym (q .left))
+pub read-agree : {o : ReadOutcome} {r q : Job} {s t : List ℕ} → Promise Is o r s → Promise Is o q t → (r ≡ q) × (s ≡ t)
+read-agree = agree is-single
 
 -- ---- what each case of the answer tells: 01's number (0 where the job is read) and place, the first count, the limits of a
 -- paragraph or of an index, and n
@@ -44,26 +40,29 @@ noPages = record { lmin = 0; lmax = 0 }
 unfoldable pub toldJob : Job → ToldJob
 toldJob (Read (Paragraph l) n) = record { number = 0; place = 0; count = 4; limits = l; pages = noPages; n = n }
 toldJob (Read (Index l) n) = record { number = 0; place = 0; count = 2; limits = noLimits; pages = l; n = n }
-toldJob (Refused r) = record { number = toldRefusal r .number; place = toldRefusal r .place; count = 0; limits = noLimits; pages = noPages; n = 0 }
+toldJob (Refused r) =
+    record { number = toldRefusal r .number; place = toldRefusal r .place; count = 0; limits = noLimits; pages = noPages; n = 0 }
 
 -- ---- "A refused read leaves the lengths strip unchanged"
-pub refused-unchanged : (o : Reading) (s : List ℕ) {r : Job} {t : List ℕ} (q : Refusal) → Promise (outcome o s) r t → r ≡ Refused q → t ≡ s
+pub refused-unchanged : (o : Reading) (s : List ℕ) {r : Job} {t : List ℕ} (q : Refusal) →
+    Promise Is (outcome o s) r t → r ≡ Refused q → t ≡ s
 unfolding outcome
-refused-unchanged (refuse q′) s q p e = p .left
+refused-unchanged (refuse q′) s q p e = p .strips
 refused-unchanged (accept asked ws) s q p e =
-    let z : _≡_ {A = ℕ} 0 1 = cc (p .answered) in
+    let z : _≡_ {A = ℕ} 0 1 = cc (p .tells) in
     absurd (omega arith)
 
 -- ---- "An accepted read writes the n lengths and no entry past them."
-pub record Accepted (o : Reading) (s : List ℕ) (asked : Asked) (n : ℕ) (t : List ℕ) : Type 0 where
+pub record ReadInto (o : Reading) (s : List ℕ) (asked : Asked) (n : ℕ) (t : List ℕ) : Type 0 where
   pub lengths : List ℕ
   pub is : o ≡ accept asked lengths
   pub count : n ≡ length lengths
   pub written : t ≡ over lengths s
 
-pub accepted-writes : (o : Reading) (s : List ℕ) {r : Job} {t : List ℕ} {asked : Asked} {n : ℕ} → Promise (outcome o s) r t → r ≡ Read asked n → Accepted o s asked n t
+pub accepted-writes : (o : Reading) (s : List ℕ) {r : Job} {t : List ℕ} {asked : Asked} {n : ℕ} →
+    Promise Is (outcome o s) r t → r ≡ Read asked n → ReadInto o s asked n t
 unfolding outcome
 accepted-writes (refuse q) s p e =
-    let z : _≡_ {A = ℕ} 0 1 = cc (p .answered) in
+    let z : _≡_ {A = ℕ} 0 1 = cc (p .tells) in
     absurd (omega arith)
-accepted-writes (accept a ws) s p e = record { lengths = ws; is = cc (p .answered); count = cc (p .answered); written = p .left }
+accepted-writes (accept a ws) s p e = record { lengths = ws; is = cc (p .tells); count = cc (p .tells); written = p .strips }

@@ -1,11 +1,12 @@
 -- 01, "Job file and listing": what a job is read as, from its bytes and the lengths strip alone. Assumes nothing.
 use Prim.Native.Nat.{ℕ, zero, suc, _+_, _*_, _^_}
-use mathlib.Core.Bool.{true, false}
+use mathlib.Core.Bool.{Bool, true, false, _||_}
 use mathlib.Core.List.{List, [], _∷_}
 use lib.Dec.{ltb, eqb}
 use lib.ListN.{length, getD, drop}
 use Rattle.laws.specs.Number.{if}
 use Rattle.laws.specs.Strip.{over}
+use Rattle.laws.specs.Outcome.{Outcome}
 use Rattle.paper.specs.declared.Refusal.{Refusal}
 use Rattle.paper.specs.declared.Refusal.the-variants.{Many, Room, Job as Malformed}
 use Rattle.paper.specs.Allowed.{mostWords}
@@ -59,33 +60,36 @@ unfoldable pub lengthsAfter : List ℕ → ℕ → ℕ → Asked → Reading
 lengthsAfter job room at asked = counted job at (lengthsFrom job room asked (at + 4))
 
 -- "limits (count 4: lmin, lopt, lmax, A; or count 2: lmin, lmax, meaning an index)"
-unfoldable pub four : List ℕ → Asked
-four l = Paragraph (record { lmin = getD l 0 0; lopt = getD l 1 0; lmax = getD l 2 0; a = getD l 3 0 })
+unfoldable pub announced : ℕ → Bool
+announced count = eqb count 4 || eqb count 2
 
-unfoldable pub two : List ℕ → Asked
-two l = Index (record { lmin = getD l 0 0; lmax = getD l 1 0 })
+-- A limit that is not among them is 0.
+unfoldable pub askedBy : ℕ → List ℕ → Asked
+askedBy count l =
+    if (eqb count 2)
+    (Index (record { lmin = getD l 0 0; lmax = getD l 1 0 }))
+    (Paragraph (record { lmin = getD l 0 0; lopt = getD l 1 0; lmax = getD l 2 0; a = getD l 3 0 }))
 
 -- "Sections stand in a fixed order, each after its count: limits [..], then lengths." "a first count that is neither 4 nor 2 is
 -- JOB at 0"
 unfoldable pub limitsFrom : List ℕ → ℕ → ℕ → Reading
 limitsFrom job room count =
-    if (eqb count 4) (section job 4 4 (λ l. lengthsAfter job room 20 (four l)))
-    (if (eqb count 2) (section job 4 2 (λ l. lengthsAfter job room 12 (two l)))
-    (refuse (Malformed 0)))
+    if (announced count)
+    (section job 4 count (λ l. lengthsAfter job room (4 + 4 * count) (askedBy count l)))
+    (refuse (Malformed 0))
 
 -- the whole job, for a lengths strip that has room for so many
 unfoldable pub reading : List ℕ → ℕ → Reading
 reading job room = counted job 0 (limitsFrom job room)
 
 -- ---- the outcome: the answer, and the lengths strip at exit
-pub record ReadOutcome : Type 0 where
-  pub answer : Job
-  pub lengths : List ℕ
+abbrev pub ReadOutcome : Type 0
+ReadOutcome = Outcome Job (List ℕ)
 
 -- "A refused read leaves the lengths strip unchanged [..]. An accepted read writes the n lengths and no entry past them."
 unfoldable pub outcome : Reading → List ℕ → ReadOutcome
-outcome (refuse r) s = record { answer = Refused r; lengths = s }
-outcome (accept asked ws) s = record { answer = Read asked (length ws); lengths = over ws s }
+outcome (refuse r) s = record { answer = Refused r; strips = s }
+outcome (accept asked ws) s = record { answer = Read asked (length ws); strips = over ws s }
 
 unfoldable pub readOutcome : List ℕ → List ℕ → ReadOutcome
 readOutcome job s = outcome (reading job (length s)) s

@@ -5,9 +5,9 @@ use paper::Refusal;
 ghost use mathlib.Core.Path.{_≡_};
 ghost use Prim.Native.Nat.{_+_, _≤_, _<_};
 ghost use lib.ListN.{length};
-ghost use Rattle.job.specs.Reader.{number, lengthsFrom, lengthsAfter, limitsFrom, outcome, readOutcome};
+ghost use Rattle.job.specs.Reader.{number, lengthsFrom, lengthsAfter, announced, askedBy, limitsFrom, outcome, readOutcome};
 ghost use Rattle.job.specs.Section.{SectionIs};
-ghost use Rattle.job.specs.Promise.{Promise};
+ghost use Rattle.laws.specs.Outcome.{Promise, Is};
 
 // What a job asks for, with its limits.
 pub enum Asked {
@@ -60,7 +60,7 @@ fn section(part: &[u8], n: usize, out: &mut [u32]) -> usize
 // The n lengths from byte at on, and then the end of the job.
 fn lengths_from(job: &[u8], asked: Asked, at: usize, count: u32, lengths: &mut [u32]) -> Job
     requires { ⌜ at ≤ length (now job) ⌝ }
-    ensures { λ r. ⌜ Promise
+    ensures { λ r. ⌜ Promise Is
         (outcome (lengthsFrom (now (job .entry)) (length (now (lengths .entry))) asked at count) (now (lengths .entry)))
         r (now (lengths .exit)) ⌝ }
 {
@@ -85,71 +85,67 @@ fn lengths_from(job: &[u8], asked: Asked, at: usize, count: u32, lengths: &mut [
 // The lengths, whose count stands at byte at.
 fn lengths_after(job: &[u8], at: usize, asked: Asked, lengths: &mut [u32]) -> Job
     requires { ⌜ at ≤ length (now job) ⌝ }
-    ensures { λ r. ⌜ Promise
+    ensures { λ r. ⌜ Promise Is
         (outcome (lengthsAfter (now (job .entry)) (length (now (lengths .entry))) at asked) (now (lengths .entry)))
         r (now (lengths .exit)) ⌝ }
 {
-    let mut count = [0u32; 1];
-    if section(&job[at..], 1, &mut count) < 1 {
+    if job.len() < at + 4 {
         return Job::Refused(Refusal::Job(at));
     }
-    lengths_from(job, asked, at + 4, count[0], lengths)
+    lengths_from(job, asked, at + 4, number(job, at), lengths)
 }
 
-// A paragraph's limits, from byte 4 on, and then its lengths.
-fn paragraph(job: &[u8], lengths: &mut [u32]) -> Job
-    requires { ⌜ 4 ≤ length (now job) ⌝ }
-    ensures { λ r. ⌜ Promise
-        (outcome (limitsFrom (now (job .entry)) (length (now (lengths .entry))) 4) (now (lengths .entry)))
-        r (now (lengths .exit)) ⌝ }
+// Whether a first count announces limits.
+fn announced(count: u32) -> bool
+    ensures { λ r. ⌜ r ≡ announced count ⌝ }
 {
-    let mut l = [0u32; 4];
-    let complete = section(&job[4..], 4, &mut l);
-    if complete < 4 {
-        return Job::Refused(Refusal::Job(4 + 4 * complete));
+    count == 4 || count == 2
+}
+
+// What limits of that count ask for.
+fn asked_by(count: u32, l: &[u32]) -> Asked
+    requires { ⌜ 4 ≤ length (now l) ⌝ }
+    ensures { λ r. ⌜ r ≡ askedBy count (now (l .entry)) ⌝ }
+{
+    if count == 2 {
+        return Asked::Index(PageLimits {
+            lmin: l[0],
+            lmax: l[1],
+        });
     }
-    let limits = Limits {
+    Asked::Paragraph(Limits {
         lmin: l[0],
         lopt: l[1],
         lmax: l[2],
         a: l[3],
-    };
-    lengths_after(job, 20, Asked::Paragraph(limits), lengths)
+    })
 }
 
-// An index's limits, from byte 4 on, and then its lengths.
-fn index(job: &[u8], lengths: &mut [u32]) -> Job
+// The limits that the first count announces, from byte 4 on, and then the lengths.
+fn limits_from(job: &[u8], count: u32, lengths: &mut [u32]) -> Job
     requires { ⌜ 4 ≤ length (now job) ⌝ }
-    ensures { λ r. ⌜ Promise
-        (outcome (limitsFrom (now (job .entry)) (length (now (lengths .entry))) 2) (now (lengths .entry)))
+    ensures { λ r. ⌜ Promise Is
+        (outcome (limitsFrom (now (job .entry)) (length (now (lengths .entry))) count) (now (lengths .entry)))
         r (now (lengths .exit)) ⌝ }
 {
-    let mut l = [0u32; 2];
-    let complete = section(&job[4..], 2, &mut l);
-    if complete < 2 {
-        return Job::Refused(Refusal::Job(4 + 4 * complete));
+    if !announced(count) {
+        return Job::Refused(Refusal::Job(0));
     }
-    let limits = PageLimits {
-        lmin: l[0],
-        lmax: l[1],
-    };
-    lengths_after(job, 12, Asked::Index(limits), lengths)
+    let n = count as usize;
+    let mut l = [0u32; 4];
+    let given = section(&job[4..], n, &mut l);
+    if given < n {
+        return Job::Refused(Refusal::Job(4 + 4 * given));
+    }
+    lengths_after(job, 4 + 4 * n, asked_by(count, &l), lengths)
 }
 
 // The whole job. A refused read writes nothing.
 pub fn read(job: &[u8], lengths: &mut [u32]) -> Job
-    ensures { λ r. ⌜ Promise (readOutcome (now (job .entry)) (now (lengths .entry))) r (now (lengths .exit)) ⌝ }
+    ensures { λ r. ⌜ Promise Is (readOutcome (now (job .entry)) (now (lengths .entry))) r (now (lengths .exit)) ⌝ }
 {
-    let mut count = [0u32; 1];
-    if section(job, 1, &mut count) < 1 {
+    if job.len() < 4 {
         return Job::Refused(Refusal::Job(0));
     }
-    let c = count[0];
-    if c == 4 {
-        return paragraph(job, lengths);
-    }
-    if c == 2 {
-        return index(job, lengths);
-    }
-    Job::Refused(Refusal::Job(0))
+    limits_from(job, number(job, 0), lengths)
 }

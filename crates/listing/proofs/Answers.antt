@@ -1,66 +1,149 @@
--- What the reader's answer comes to in a listing. Assumes nothing but what each law states.
-use Prim.Native.Nat.{ℕ, _≤_}
-use mathlib.Core.Path.{_≡_, ap, sym, _∙_}
-use mathlib.Core.List.{List}
+-- What the answers of the reader and of the setters come to in a listing. Assumes nothing but what each law states.
+use Prim.Native.Nat.{ℕ, suc, _+_, _≤_}
+use mathlib.Core.Path.{_≡_, refl, ap, sym, _∙_}
+use mathlib.Core.Logic.{⊎-elim}
+use mathlib.Core.Bool.{Bool}
+use mathlib.Core.List.{List, [], _∷_}
 use native.Mathlib.Omega.{arith}
-use lib.ListN.{length, take, replicate, length-replicate}
-use Rattle.paper.specs.declared.Limits.{Limits}
-use Rattle.paper.specs.declared.PageLimits.{PageLimits}
+use borrow.Author.Tests.{lt-ltb, le-leb}
+use lib.Dec.{leb}
+use lib.ListN.{length, take, drop, replicate, length-replicate}
+use lib.Seq.{take-at}
+use Rattle.laws.specs.Number.{split, when-true}
+use Rattle.laws.specs.Cost.{Cost, none, some}
+use Rattle.laws.specs.Strip.{over, length-over}
+use Rattle.laws.specs.Outcome.{Promise, Is}
 use Rattle.paper.specs.declared.Refusal.{Refusal}
+use Rattle.paper.specs.declared.Answer.{Answer}
+use Rattle.paper.specs.declared.Answer.the-variants.{Set, None, Refused}
+use Rattle.paper.specs.declared.Checked.{Checked}
+use Rattle.paper.specs.declared.Checked.the-variants.{Accept, Refuse}
 use Rattle.paper.specs.Allowed.{mostWords}
-use Rattle.job.specs.declared.Asked.{Asked}
-use Rattle.job.specs.declared.Asked.the-variants.{Paragraph, Index}
-use Rattle.job.specs.declared.Job.{Job}
-use Rattle.job.specs.declared.Job.the-variants.{Read, Refused}
-use Rattle.job.specs.Reader as Reader
-use Rattle.job.specs.Reader.{Reading, refuse, accept, reading, readOutcome}
-use Rattle.job.specs.Promise as Reader·Promise
-use Rattle.job.specs.Promise.{toldJob, accepted-writes}
-use Rattle.job.specs.Fits.{read-fits}
-use Rattle.listing.specs.declared.Listed.{Listed}
+use Rattle.paper.specs.Told.{toldRefusal, checked, firstShort}
+use Rattle.paper.specs.Strips.{sums}
 use Rattle.refusals.specs.declared.Reason.{Reason}
 use Rattle.refusals.specs.Tells.{Tells}
-use Rattle.listing.specs.Listing.{refused, refusal, listed, paragraphListing, indexListing, listingOf}
-use Rattle.listing.specs.Promise.{Promise, outcome}
-use Rattle.listing.proofs.Settings.{front-is}
+use Rattle.refusals.specs.Accepted.{accepted}
+use Rattle.strips.specs.Words.{length-sums}
+use Rattle.job.specs.declared.Asked.{Asked}
+use Rattle.job.specs.declared.Job.{Job}
+use Rattle.job.specs.declared.Job.the-variants.{Read, Refused as JobRefused}
+use Rattle.job.specs.Reader as Reader
+use Rattle.job.specs.Reader.{Reading, refuse, accept, reading, readOutcome}
+use Rattle.job.specs.Promise.{accepted-writes}
+use Rattle.listing.specs.Listing.{refused, refusal, holds, least, parts, moved}
+use Rattle.listing.specs.Listing.{costListing, checkedListing, askedListing, listed, listingOf}
+use Rattle.listing.specs.Asks.{IsSet, Answered}
+use Rattle.listing.specs.Settings.{set-is}
+use Rattle.listing.specs.Size.{set-size}
 
--- the lengths strip that is lent
-pub words : length {A = ℕ} (replicate 4096 0) ≡ mostWords
-words = length-replicate {A = ℕ} 4096 0
+-- what stands at the front of a strip that was written
+front-is : (xs s t : List ℕ) (k : ℕ) → t ≡ over xs s → length xs ≡ k → take k t ≡ xs
+unfolding over
+front-is xs s t k e h = ap (take k) e ∙ take-at xs (drop (length xs) s) k h
 
--- a reading that is answered by a refusal
-refused-by : (o : Reading) (s : List ℕ) (q : Refusal) → Refused q ≡ Reader.outcome o s .answer → listed o ≡ refused (toldJob (Refused q) .number) (toldJob (Refused q) .place)
-unfolding Reader.outcome listed refusal toldJob
-refused-by (refuse r) s q e = let z : q ≡ r = cc in rw z
-refused-by (accept asked ws) s q e = let z : _≡_ {A = ℕ} 0 1 = cc in absurd (omega arith)
+-- the row of a refusal, by what is told of it
+pub told-row : (q : Refusal) {why : Reason} → Tells (toldRefusal q .number) (toldRefusal q .place) why →
+    refusal q ≡ refused (why .number) (why .place)
+unfolding refusal
+told-row q t = rw (t .is-number, t .is-place)
 
-module _ (job s : List ℕ) (size : length s ≡ mostWords) (r : Job) (t : List ℕ) (p : Reader·Promise.Promise (readOutcome job s) r t) where
-  pub list-refused : (q : Refusal) → r ≡ Refused q → (why : Reason) → Tells (toldJob r .number) (toldJob r .place) why → (o : List ℕ) {x : Listed} {u : List ℕ} →
-      Promise (outcome (refused (why .number) (why .place)) o) x u → Promise (outcome (listingOf job) o) x u
-  unfolding listingOf readOutcome
-  list-refused q e why tells o {x} {u} h =
-      let f : listed (reading job mostWords) ≡ refused (toldJob (Refused q) .number) (toldJob (Refused q) .place)
-      = rw (← size) (refused-by (reading job (length s)) s q (sym e ∙ p .answered)) in
-      let n : toldJob (Refused q) .number ≡ why .number = ap (λ (j : Job). toldJob j .number) (sym e) ∙ sym (tells .is-number) in
-      let m : toldJob (Refused q) .place ≡ why .place = ap (λ (j : Job). toldJob j .place) (sym e) ∙ sym (tells .is-place) in
-      rw (f, n, m) h
+-- ---- the reader, which is lent a strip for as many lengths as there may be
+module _ (job : List ℕ) {r : Job} {t : List ℕ} (p : Promise Is (readOutcome job (replicate 4096 0)) r t) where
+  size : length {A = ℕ} (replicate 4096 0) ≡ mostWords
+  size = length-replicate {A = ℕ} 4096 0
 
-  module _ (asked : Asked) (n : ℕ) (e : r ≡ Read asked n) where
-    pub words-room : n ≤ length t
-    words-room = read-fits job s p e .after
+  pub unread-listed : {q : Refusal} → r ≡ JobRefused q → listingOf job ≡ refusal q
+  unfolding listingOf readOutcome Reader.outcome listed
+  unread-listed {q} e = rw (← size) (go (reading job (length {A = ℕ} (replicate 4096 0))) (sym e ∙ p .tells))
+    where
+      go : (o : Reading) → JobRefused q ≡ Reader.outcome o (replicate 4096 0) .answer → listed o ≡ refusal q
+      go (refuse q′) f = let z : q ≡ q′ = cc in rw z
+      go (accept asked ws) f = let z : _≡_ {A = ℕ} 0 1 = cc in absurd (omega arith)
 
-    read-listed : listingOf job ≡ listed (accept asked (take n t))
-    unfolding listingOf readOutcome
-    read-listed =
-        let a = accepted-writes (reading job (length s)) s p e in
-        ap listed (ap (reading job) (sym size) ∙ a .is ∙ ap (accept asked) (sym (front-is (a .lengths) s t n (a .written) (sym (a .count)))))
+  pub read-listed : {asked : Asked} {n : ℕ} → r ≡ Read asked n → listingOf job ≡ askedListing asked (take n t)
+  unfolding listingOf readOutcome listed
+  read-listed {asked} {n} e =
+      let s : List ℕ = replicate 4096 0 in
+      let a = accepted-writes (reading job (length s)) s p e in
+      ap listed (ap (reading job) (sym size) ∙ a .is ∙ ap (accept asked) (sym (front-is (a .lengths) s t n (a .written) (sym (a .count)))))
 
-    pub list-paragraph-read : (l : Limits) → asked ≡ Paragraph l → (o : List ℕ) {x : Listed} {u : List ℕ} → Promise (outcome (paragraphListing l (take n t)) o) x u →
-        Promise (outcome (listingOf job) o) x u
-    unfolding listed
-    list-paragraph-read l f o h = rw (read-listed ∙ ap (λ (a : Asked). listed (accept a (take n t))) f) h
+-- ---- a setter, which is lent strips that are long enough for every text
+-- where no strip is too short for a text that is not MANY, the checks are those of 1 to 4
+all-long : (hold : Bool) (ws has needs : List ℕ) → (length ws ≤ mostWords → firstShort 1 has needs ≡ 0) →
+    checked hold ws has needs ≡ checked hold ws [] []
+unfolding checked firstShort
+all-long hold ws has needs room = ⊎-elim (λ h. rw (room h)) (λ h. rw (lt-ltb mostWords (length ws) h)) (split (length ws) mostWords)
 
-    pub list-index-read : (l : PageLimits) → asked ≡ Index l → (o : List ℕ) {x : Listed} {u : List ℕ} → Promise (outcome (indexListing l (take n t)) o) x u →
-        Promise (outcome (listingOf job) o) x u
-    unfolding listed
-    list-index-read l f o h = rw (read-listed ∙ ap (λ (a : Asked). listed (accept a (take n t))) f) h
+-- each strip has what it needs
+abbrev pub Roomy : List ℕ → List ℕ → Type 0
+Roomy [] ns = Unit {0}
+Roomy (h ∷ hs) [] = Unit {0}
+Roomy (h ∷ hs) (n ∷ ns) = (n ≤ h) × Roomy hs ns
+
+roomy : (k : ℕ) (has needs : List ℕ) → Roomy has needs → firstShort k has needs ≡ 0
+unfolding firstShort
+roomy k [] ns r = refl
+roomy k (h ∷ hs) [] r = refl
+roomy k (h ∷ hs) (n ∷ ns) r = when-true (leb n h) _ _ (le-leb n h (r .0)) ∙ roomy (suc k) hs ns (r .1)
+
+-- the answer, from what is asked alone
+abbrev pub costAnswer : Asked → List ℕ → Cost → Answer
+costAnswer asked ws none = None (moved asked ws)
+costAnswer asked ws (some v) = Set v (length (parts asked ws)) (moved asked ws)
+
+abbrev pub checkedAnswer : Asked → List ℕ → Cost → Checked → Answer
+checkedAnswer asked ws b (Refuse r) = Refused r
+checkedAnswer asked ws b Accept = costAnswer asked ws b
+
+-- the sums and the answer strip, before and after a setting
+module _ (asked : Asked) (ws s p S P : List ℕ) (sums-room : mostWords + 1 ≤ length s) (parts-room : mostWords ≤ length p) where
+  set : (v : ℕ) → checked (holds asked) ws [] [] ≡ Accept → least asked ws ≡ some v → S ≡ over (sums ws) s → P ≡ over (parts asked ws) p →
+      IsSet asked ws S P v (length (parts asked ws)) (moved asked ws)
+  unfolding askedListing checkedListing costListing
+  set v pass cost sums-over parts-over =
+      let passed = accepted (holds asked) ws [] [] pass .passed in
+      let is = set-is asked ws passed v cost in
+      let n = length-sums ws in
+      let sums-are = front-is (sums ws) s S (length ws + 1) sums-over n in
+      let parts-are = front-is (parts asked ws) p P (length (parts asked ws)) parts-over refl in
+      record {
+        sums-room = omega (arith, ap length sums-over, length-over (sums ws) s (omega (arith, passed .few)), passed .few);
+        parts-room = omega (arith, ap length parts-over, length-over (parts asked ws) p (omega (arith, passed .few, is .few)));
+        asks =
+            rw (sums-are, parts-are)
+            (record {
+              text = record { passed = passed; sums = refl };
+              parts = is .all;
+              room = record { fits = omega (arith, set-size asked ws passed v is) };
+            });
+        listing = rw (parts-are, pass, cost);
+      }
+
+-- What a setter promises: the answer and the strips, which the checks decide. Its strips are of any type, with the sums and the answer
+-- strip among them.
+module _ {Strips : Type 0} (asked : Asked) (ws : List ℕ) (sumsOf partsOf : Strips → List ℕ) (lent : Strips) (has needs : List ℕ)
+    (answer : Checked → Answer) (strips : Checked → Strips)
+    (answers : (c : Checked) → answer c ≡ checkedAnswer asked ws (least asked ws) c)
+    (sums-over : (v : ℕ) → least asked ws ≡ some v → sumsOf (strips Accept) ≡ over (sums ws) (sumsOf lent))
+    (parts-over : (v : ℕ) → least asked ws ≡ some v → partsOf (strips Accept) ≡ over (parts asked ws) (partsOf lent))
+    (sums-room : mostWords + 1 ≤ length (sumsOf lent)) (parts-room : mostWords ≤ length (partsOf lent))
+    (room : length ws ≤ mostWords → Roomy has needs) where
+  pub answered : {a : Answer} {t : Strips} →
+      a ≡ answer (checked (holds asked) ws has needs) → t ≡ strips (checked (holds asked) ws has needs) →
+      Answered asked ws (sumsOf t) (partsOf t) a
+  unfolding askedListing checkedListing costListing
+  answered {a} {t} e f =
+      let long = all-long (holds asked) ws has needs (λ h. roomy 1 has needs (room h)) in
+      let c = checked (holds asked) ws [] [] in
+      rw (e ∙ ap answer long ∙ answers c, f ∙ ap strips long) (at-checked c refl)
+    where
+      at-cost : checked (holds asked) ws [] [] ≡ Accept → (b : Cost) → least asked ws ≡ b →
+          Answered asked ws (sumsOf (strips Accept)) (partsOf (strips Accept)) (costAnswer asked ws b)
+      at-cost g none h = rw (g, h)
+      at-cost g (some v) h = set asked ws _ _ _ _ sums-room parts-room v g h (sums-over v h) (parts-over v h)
+
+      at-checked : (c : Checked) → checked (holds asked) ws [] [] ≡ c →
+          Answered asked ws (sumsOf (strips c)) (partsOf (strips c)) (checkedAnswer asked ws (least asked ws) c)
+      at-checked (Refuse r) g = rw g
+      at-checked Accept g = at-cost g (least asked ws) refl

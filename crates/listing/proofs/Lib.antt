@@ -1,8 +1,5 @@
 pub mod Passes
-pub mod Parts
-pub mod Lining
-pub mod Settings
-pub mod Paragraphs
-pub mod Paging
-pub mod Pages
+pub mod Measuring
+pub mod Rows
 pub mod Answers
+pub mod Setters

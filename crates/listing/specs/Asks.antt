@@ -1,63 +1,77 @@
 -- What the functions of this crate ask and tell. Assumes nothing.
-use Prim.Native.Nat.{ℕ, _+_, _≤_, _<_}
+use Prim.Native.Nat.{ℕ, suc, _+_, _≤_, _<_}
 use mathlib.Core.Path.{_≡_}
-use mathlib.Core.List.{List}
-use lib.ListN.{length, getD}
+use mathlib.Core.List.{List, [], _∷_}
+use lib.Dec.{T}
+use lib.ListN.{length, getD, take}
+use Rattle.laws.specs.Setting.{Problem}
 use Rattle.paper.specs.declared.Limits.{Limits}
-use Rattle.paper.specs.Allowed.{limitsHold, Passed}
-use Rattle.paper.specs.Paragraph.{end}
+use Rattle.paper.specs.declared.Answer.{Answer}
+use Rattle.paper.specs.declared.Answer.the-variants.{Set, None, Refused}
+use Rattle.paper.specs.Allowed.{Passed}
+use Rattle.paper.specs.Paragraph.{end, line, charge, paragraph}
+use Rattle.paper.specs.Index.{index}
 use Rattle.paper.specs.Strips.{sums}
+use Rattle.job.specs.declared.Asked.{Asked}
+use Rattle.job.specs.declared.Asked.the-variants.{Paragraph as AskedParagraph, Index as AskedIndex}
 use Rattle.rows.specs.Puts.{Fits}
-use Rattle.listing.specs.Listing.{lineRow, lineRows, paragraphRows, boundaryRow, boundaryRows, indexRows}
+use Rattle.listing.specs.declared.parts.Measure.{Measure}
+use Rattle.listing.specs.Listing.{refused, refusal, holds, head, partRow, partRows, movesRow, setRows, askedListing}
 
--- ---- the paragraph
+-- ---- parts of a setting
 -- a text that refusals 1 to 4 pass, with its sums
-pub record Text (l : Limits) (ws S : List ℕ) : Type 0 where
-  pub passed : Passed (limitsHold l) ws
+pub record Summed (asked : Asked) (ws S : List ℕ) : Type 0 where
+  pub passed : Passed (holds asked) ws
   pub sums : S ≡ sums ws
 
--- from start i up to j
-pub record Line (ws : List ℕ) (i j : ℕ) : Type 0 where
+unfoldable pub problem : Asked → List ℕ → Problem
+problem (AskedParagraph l) ws = paragraph l ws
+problem (AskedIndex l) ws = index l ws
+
+-- from i up to j
+pub record Part (asked : Asked) (ws : List ℕ) (i j : ℕ) : Type 0 where
   pub first : 1 ≤ i
   pub order : i < j
   pub within : j ≤ end ws
+  pub fits : T (problem asked ws .fits i j)
 
-pub record LineAsks (l : Limits) (ws S : List ℕ) (i j at : ℕ) : Type 0 where
-  pub text : Text l ws S
-  pub line : Line ws i j
-  pub room : Fits at (lineRow l ws i j)
+pub record LineAsks (l : Limits) (ws S : List ℕ) (i j : ℕ) : Type 0 where
+  pub text : Summed (AskedParagraph l) ws S
+  pub part : Part (AskedParagraph l) ws i j
 
--- each start goes up to the next, the last one to the end
-pub record Starts (ws starts : List ℕ) : Type 0 where
-  pub lines : (k : ℕ) → k < length starts → Line ws (getD starts k 0) (getD starts (k + 1) (end ws))
+pub record MeasureIs (l : Limits) (ws : List ℕ) (i j : ℕ) (m : Measure) : Type 0 where
+  pub length : m .length ≡ line ws i j
+  pub cost : m .cost ≡ charge l ws i j
 
-pub record LinesAsk (l : Limits) (ws S js : List ℕ) (at : ℕ) : Type 0 where
-  pub text : Text l ws S
-  pub starts : Starts ws js
-  pub room : Fits at (lineRows l ws js)
+pub record PartAsks (asked : Asked) (ws S : List ℕ) (i j at : ℕ) : Type 0 where
+  pub text : Summed asked ws S
+  pub part : Part asked ws i j
+  pub room : Fits at (partRow asked ws i j ∷ [])
 
-pub record RowsAsk (l : Limits) (ws S js : List ℕ) (total moves : ℕ) : Type 0 where
-  pub text : Text l ws S
-  pub starts : Starts ws js
-  pub room : Fits 0 (paragraphRows l ws js total moves)
+-- each goes up to the next, the last one to the end
+pub record Parts (asked : Asked) (ws is : List ℕ) : Type 0 where
+  pub each : (k : ℕ) → k < length is → Part asked ws (getD is k 0) (getD is (suc k) (end ws))
 
--- ---- the index
--- an item of the list
-pub record Item (ws : List ℕ) (b : ℕ) : Type 0 where
-  pub first : 1 ≤ b
-  pub within : b ≤ length ws
+pub record PartsAsk (asked : Asked) (ws S is : List ℕ) (at : ℕ) : Type 0 where
+  pub text : Summed asked ws S
+  pub parts : Parts asked ws is
+  pub room : Fits at (partRows asked ws is ∷ [])
 
-pub record BoundaryAsks (ws : List ℕ) (b at : ℕ) : Type 0 where
-  pub item : Item ws b
-  pub room : Fits at (boundaryRow ws b)
+-- ---- a setting
+pub record SetAsks (asked : Asked) (ws S is : List ℕ) (total moves : ℕ) : Type 0 where
+  pub text : Summed asked ws S
+  pub parts : Parts asked ws is
+  pub room : Fits 0 (head asked (length ws) total (length is) ∷ partRows asked ws is ∷ movesRow moves ∷ [])
 
-pub record Items (ws bs : List ℕ) : Type 0 where
-  pub each : (k : ℕ) → k < length bs → Item ws (getD bs k 0)
+-- the strips that are listed, at their used part
+pub record IsSet (asked : Asked) (ws S is : List ℕ) (total lines moves : ℕ) : Type 0 where
+  pub sums-room : length ws + 1 ≤ length S
+  pub parts-room : lines ≤ length is
+  pub asks : SetAsks asked ws (take (length ws + 1) S) (take lines is) total moves
+  pub listing : askedListing asked ws ≡ setRows asked ws (take lines is) total moves
 
-pub record BoundariesAsk (ws bs : List ℕ) (at : ℕ) : Type 0 where
-  pub items : Items ws bs
-  pub room : Fits at (boundaryRows ws bs)
-
-pub record PagesAsk (ws bs : List ℕ) (total moves : ℕ) : Type 0 where
-  pub items : Items ws bs
-  pub room : Fits 0 (indexRows ws bs total moves)
+-- what each answer comes to
+abbrev pub Answered : Asked → List ℕ → List ℕ → List ℕ → Answer → Type 0
+Answered asked ws S is (Set total lines moves) = IsSet asked ws S is total lines moves
+Answered asked ws S is (None moves) = askedListing asked ws ≡ refused 6 0
+Answered asked ws S is (Refused r) = askedListing asked ws ≡ refusal r

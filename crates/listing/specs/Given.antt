@@ -1,5 +1,5 @@
--- The listing of a job is 01's listing of what the definitions give, case by case; and what the promise says of a buffer with room and of one
--- without. Assumes nothing but what each law states.
+-- The listing of a job is 01's listing of what the definitions give, case by case; and what the promise says of a buffer with room and of
+-- one without. Assumes nothing but what each law states.
 use Prim.Native.Nat.{ℕ, _≤_, _<_}
 use mathlib.Core.Path.{_≡_, refl, ap, sym, subst, _∙_}
 use mathlib.Core.List.{List, []}
@@ -11,23 +11,20 @@ use lib.ListN.{length, take, drop, length-take}
 use lib.Seq.{take-append-seam, drop-append-seam}
 use Rattle.laws.specs.Cost.{none, some}
 use Rattle.laws.specs.Strip.{over}
-use Rattle.paper.specs.declared.Limits.{Limits}
-use Rattle.paper.specs.declared.PageLimits.{PageLimits}
 use Rattle.paper.specs.declared.Refusal.{Refusal}
 use Rattle.paper.specs.declared.Checked.the-variants.{Accept, Refuse}
-use Rattle.paper.specs.Allowed.{mostWords, limitsHold, pageLimitsHold}
-use Rattle.paper.specs.Paragraph as Paragraph
-use Rattle.paper.specs.Index as Index
-use Rattle.paper.specs.QueueRules.{queueMoves}
-use Rattle.paper.specs.PointerRules.{pointerMoves}
+use Rattle.paper.specs.Allowed.{mostWords}
 use Rattle.paper.specs.Told.{checked}
-use Rattle.job.specs.declared.Asked.the-variants.{Paragraph as AskedParagraph, Index as AskedIndex}
+use Rattle.job.specs.declared.Asked.{Asked}
 use Rattle.job.specs.Reader.{refuse, accept, reading}
+use Rattle.job.specs.Bounds.{longest}
 use Rattle.job.specs.First.{reading-first}
 use Rattle.listing.specs.declared.Listed.{Listed}
 use Rattle.listing.specs.declared.Listed.the-variants.{Written, Short}
-use Rattle.listing.specs.Listing.{refused, refusal, paragraphRows, paragraphSet, paragraphChecked, paragraphListing, indexRows, indexSet, indexChecked, indexListing, listed, listingOf}
-use Rattle.listing.specs.Promise.{Promise, outcome}
+use Rattle.listing.specs.Listing.{refused, refusal, holds, least, parts, moved, setRows}
+use Rattle.listing.specs.Listing.{costListing, checkedListing, askedListing, listed, listingOf}
+use Rattle.laws.specs.Outcome.{Promise, Is}
+use Rattle.listing.specs.Promise.{outcome}
 
 -- ---- a job that is not read
 pub listed-unread : (job : List ℕ) (r : Refusal) → reading job mostWords ≡ refuse r → listingOf job ≡ refusal r
@@ -35,58 +32,45 @@ unfolding listingOf listed
 listed-unread job r e = rw e
 
 -- ---- "A job of any size [..] gets its right answer": more than 16,408 bytes are decided by any longer front.
-pub listing-first : (job : List ℕ) (m : ℕ) → 16408 < m → listingOf (take m job) ≡ listingOf job
+pub listing-first : (job : List ℕ) (m : ℕ) → longest < m → listingOf (take m job) ≡ listingOf job
 unfolding listingOf
 listing-first job m long = ap listed (reading-first job mostWords m long)
 
--- ---- a paragraph
-module _ (job : List ℕ) (l : Limits) (ws : List ℕ) (read : reading job mostWords ≡ accept (AskedParagraph l) ws) where
-  pub paragraph-refused : (r : Refusal) → checked (limitsHold l) ws [] [] ≡ Refuse r → listingOf job ≡ refusal r
-  unfolding listingOf listed paragraphListing paragraphChecked
-  paragraph-refused r e = rw (read, e)
+-- ---- a job that is read
+module _ (job : List ℕ) (asked : Asked) (ws : List ℕ) (read : reading job mostWords ≡ accept asked ws) where
+  pub listed-refused : (r : Refusal) → checked (holds asked) ws [] [] ≡ Refuse r → listingOf job ≡ refusal r
+  unfolding listingOf listed askedListing checkedListing
+  listed-refused r e = rw (read, e)
 
-  pub paragraph-none : checked (limitsHold l) ws [] [] ≡ Accept → Paragraph.best l ws 1 ≡ none → listingOf job ≡ refused 6 0
-  unfolding listingOf listed paragraphListing paragraphChecked paragraphSet
-  paragraph-none e f = rw (read, e, f)
+  pub listed-none : checked (holds asked) ws [] [] ≡ Accept → least asked ws ≡ none → listingOf job ≡ refused 6 0
+  unfolding listingOf listed askedListing checkedListing costListing
+  listed-none e f = rw (read, e, f)
 
-  pub paragraph-set : checked (limitsHold l) ws [] [] ≡ Accept → (total : ℕ) → Paragraph.best l ws 1 ≡ some total →
-      listingOf job ≡ paragraphRows l ws (Paragraph.breaks l ws) total (length (queueMoves l ws))
-  unfolding listingOf listed paragraphListing paragraphChecked paragraphSet
-  paragraph-set e total f = rw (read, e, f)
-
--- ---- an index
-module _ (job : List ℕ) (l : PageLimits) (ws : List ℕ) (read : reading job mostWords ≡ accept (AskedIndex l) ws) where
-  pub index-refused : (r : Refusal) → checked (pageLimitsHold l) ws [] [] ≡ Refuse r → listingOf job ≡ refusal r
-  unfolding listingOf listed indexListing indexChecked
-  index-refused r e = rw (read, e)
-
-  pub index-none : checked (pageLimitsHold l) ws [] [] ≡ Accept → Index.best l ws 0 ≡ none → listingOf job ≡ refused 6 0
-  unfolding listingOf listed indexListing indexChecked indexSet
-  index-none e f = rw (read, e, f)
-
-  pub index-set : checked (pageLimitsHold l) ws [] [] ≡ Accept → (total : ℕ) → Index.best l ws 0 ≡ some total →
-      listingOf job ≡ indexRows ws (Index.boundaries l ws) total (length (pointerMoves l ws))
-  unfolding listingOf listed indexListing indexChecked indexSet
-  index-set e total f = rw (read, e, f)
+  pub listed-set : checked (holds asked) ws [] [] ≡ Accept → (total : ℕ) → least asked ws ≡ some total →
+      listingOf job ≡ setRows asked ws (parts asked ws) total (moved asked ws)
+  unfolding listingOf listed askedListing checkedListing costListing
+  listed-set e total f = rw (read, e, f)
 
 -- ---- the buffer
-module _ (bytes s : List ℕ) {r : Listed} {t : List ℕ} (p : Promise (outcome bytes s) r t) where
+module _ (bytes s : List ℕ) {r : Listed} {t : List ℕ} (p : Promise Is (outcome bytes s) r t) where
   -- with room: the bytes stand at the front, and the rest is as it was
-  pub with-room : length bytes ≤ length s → (r ≡ Written (length bytes)) × (take (length bytes) t ≡ bytes) × (drop (length bytes) t ≡ drop (length bytes) s)
+  pub with-room : length bytes ≤ length s →
+      (r ≡ Written (length bytes)) × (take (length bytes) t ≡ bytes) × (drop (length bytes) t ≡ drop (length bytes) s)
   unfolding outcome over
   with-room h =
-      let q : Promise (record { answer = Written (length bytes); out = over bytes s }) r t = rw (le-leb (length bytes) (length s) h) at p in (
-        q .answered,
-        ap (take (length bytes)) (q .left) ∙ take-append-seam bytes (drop (length bytes) s),
-        ap (drop (length bytes)) (q .left) ∙ drop-append-seam bytes (drop (length bytes) s),
+      let fits = le-leb (length bytes) (length s) h in
+      let q : Promise Is (record { answer = Written (length bytes); strips = over bytes s }) r t = rw fits at p in (
+        q .tells,
+        ap (take (length bytes)) (q .strips) ∙ take-append-seam bytes (drop (length bytes) s),
+        ap (drop (length bytes)) (q .strips) ∙ drop-append-seam bytes (drop (length bytes) s),
       )
 
   -- "A buffer that is too short gets a clear answer, and is left unchanged."
   pub without-room : length s < length bytes → (r ≡ Short (length bytes)) × (t ≡ s)
   unfolding outcome
   without-room h =
-      let q : Promise (record { answer = Short (length bytes); out = s }) r t = rw (lt-leb (length bytes) (length s) h) at p in
-      (q .answered, q .left)
+      let q : Promise Is (record { answer = Short (length bytes); strips = s }) r t = rw (lt-leb (length bytes) (length s) h) at p in
+      (q .tells, q .strips)
 
   -- what is written lies in the buffer
   pub written-within : (n : ℕ) → r ≡ Written n → n ≤ length t

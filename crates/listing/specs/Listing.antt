@@ -1,21 +1,21 @@
 -- 01, "Job file and listing": the listing of a job, as bytes, from the job's bytes alone. Assumes nothing.
 use Prim.Native.Nat.{ℕ}
+use mathlib.Core.Bool.{Bool}
 use mathlib.Core.List.{List, [], _∷_, _++_}
 use lib.ListN.{length, getD}
 use Rattle.laws.specs.Cost.{Cost, none, some}
-use Rattle.paper.specs.declared.Limits.{Limits}
-use Rattle.paper.specs.declared.PageLimits.{PageLimits}
 use Rattle.paper.specs.declared.Refusal.{Refusal}
 use Rattle.paper.specs.declared.Checked.{Checked}
 use Rattle.paper.specs.declared.Checked.the-variants.{Accept, Refuse}
 use Rattle.paper.specs.Allowed.{mostWords, limitsHold, pageLimitsHold}
 use Rattle.paper.specs.Paragraph as Paragraph
-use Rattle.paper.specs.Paragraph.{end, line, charge, breaks}
+use Rattle.paper.specs.Paragraph.{end, line, charge}
 use Rattle.paper.specs.Index as Index
-use Rattle.paper.specs.Index.{item, boundaries}
+use Rattle.paper.specs.Index.{item}
 use Rattle.paper.specs.Told.{toldRefusal, checked}
 use Rattle.paper.specs.QueueRules.{queueMoves}
 use Rattle.paper.specs.PointerRules.{pointerMoves}
+use Rattle.job.specs.declared.Asked.{Asked}
 use Rattle.job.specs.declared.Asked.the-variants.{Paragraph as AskedParagraph, Index as AskedIndex}
 use Rattle.job.specs.Reader.{Reading, refuse, accept, reading}
 use Rattle.rows.specs.Rows.{ascii, digits, row}
@@ -27,66 +27,68 @@ refused number place = row (ascii "refused") (number ∷ place ∷ [])
 unfoldable pub refusal : Refusal → List ℕ
 refusal r = refused (toldRefusal r .number) (toldRefusal r .place)
 
+-- ---- of a paragraph and of an index: whether the limits hold, the least total, the breaks or boundaries, and how many moves are taken
+unfoldable pub holds : Asked → Bool
+holds (AskedParagraph l) = limitsHold l
+holds (AskedIndex l) = pageLimitsHold l
+
+unfoldable pub least : Asked → List ℕ → Cost
+least (AskedParagraph l) ws = Paragraph.best l ws 1
+least (AskedIndex l) ws = Index.best l ws 0
+
+unfoldable pub parts : Asked → List ℕ → List ℕ
+parts (AskedParagraph l) ws = Paragraph.breaks l ws
+parts (AskedIndex l) ws = Index.boundaries l ws
+
+unfoldable pub moved : Asked → List ℕ → ℕ
+moved (AskedParagraph l) ws = length (queueMoves l ws)
+moved (AskedIndex l) ws = length (pointerMoves l ws)
+
 -- ---- "First n, the total, the count of lines; then for each line [a row]; then the count of moves."
-unfoldable pub headed : List ℕ → ℕ → List ℕ → ℕ → List ℕ → ℕ → List ℕ
+abbrev pub headed : List ℕ → ℕ → List ℕ → ℕ → List ℕ → ℕ → List ℕ
 headed kind n cost total parts count = row kind (n ∷ []) ++ (row cost (total ∷ []) ++ row parts (count ∷ []))
 
-unfoldable pub around : List ℕ → List ℕ → ℕ → List ℕ
-around head rows moves = head ++ (rows ++ row (ascii "moves") (moves ∷ []))
+unfoldable pub head : Asked → ℕ → ℕ → ℕ → List ℕ
+head (AskedParagraph l) n total count = headed (ascii "paragraph") n (ascii "penalty") total (ascii "lines") count
+head (AskedIndex l) n total count = headed (ascii "index") n (ascii "keys") total (ascii "boundaries") count
 
--- ---- the paragraph
--- "for each line its first word, length and penalty"
-unfoldable pub lineRow : Limits → List ℕ → ℕ → ℕ → List ℕ
-lineRow l ws i j = row (digits i) (line ws i j ∷ charge l ws i j ∷ [])
+-- "for each line its first word, length and penalty"; "Each boundary line has its index and its length." This is what follows the index i
+-- of a part that goes up to j.
+unfoldable pub values : Asked → List ℕ → ℕ → ℕ → List ℕ
+values (AskedParagraph l) ws i j = line ws i j ∷ charge l ws i j ∷ []
+values (AskedIndex l) ws i j = item ws i ∷ []
 
--- A line goes up to the next start, the last one to the end.
-unfoldable pub lineRows : Limits → List ℕ → List ℕ → List ℕ
-lineRows l ws [] = []
-lineRows l ws (i ∷ js) = lineRow l ws i (getD js 0 (end ws)) ++ lineRows l ws js
+abbrev pub partRow : Asked → List ℕ → ℕ → ℕ → List ℕ
+partRow asked ws i j = row (digits i) (values asked ws i j)
 
-unfoldable pub paragraphRows : Limits → List ℕ → List ℕ → ℕ → ℕ → List ℕ
-paragraphRows l ws starts total moves = around (headed (ascii "paragraph") (length ws) (ascii "penalty") total (ascii "lines") (length starts)) (lineRows l ws starts) moves
+-- A part goes up to the next one, the last to the end.
+unfoldable pub partRows : Asked → List ℕ → List ℕ → List ℕ
+partRows asked ws [] = []
+partRows asked ws (i ∷ is) = partRow asked ws i (getD is 0 (end ws)) ++ partRows asked ws is
 
--- "for P4 it is `refused 6 0`"
-unfoldable pub paragraphSet : Limits → List ℕ → Cost → List ℕ
-paragraphSet l ws none = refused 6 0
-paragraphSet l ws (some total) = paragraphRows l ws (breaks l ws) total (length (queueMoves l ws))
+abbrev pub movesRow : ℕ → List ℕ
+movesRow moves = row (ascii "moves") (moves ∷ [])
 
-unfoldable pub paragraphChecked : Limits → List ℕ → Checked → List ℕ
-paragraphChecked l ws (Refuse r) = refusal r
-paragraphChecked l ws Accept = paragraphSet l ws (Paragraph.best l ws 1)
+abbrev pub setRows : Asked → List ℕ → List ℕ → ℕ → ℕ → List ℕ
+setRows asked ws is total moves = head asked (length ws) total (length is) ++ (partRows asked ws is ++ movesRow moves)
+
+-- ---- NONE, or the setting: "for P4 it is `refused 6 0`"
+unfoldable pub costListing : Asked → List ℕ → Cost → List ℕ
+costListing asked ws none = refused 6 0
+costListing asked ws (some total) = setRows asked ws (parts asked ws) total (moved asked ws)
+
+unfoldable pub checkedListing : Asked → List ℕ → Checked → List ℕ
+checkedListing asked ws (Refuse r) = refusal r
+checkedListing asked ws Accept = costListing asked ws (least asked ws)
 
 -- No strip is too short: refusals 1 to 4, and then NONE or the setting.
-unfoldable pub paragraphListing : Limits → List ℕ → List ℕ
-paragraphListing l ws = paragraphChecked l ws (checked (limitsHold l) ws [] [])
-
--- ---- the index: "Each boundary line has its index and its length."
-unfoldable pub boundaryRow : List ℕ → ℕ → List ℕ
-boundaryRow ws b = row (digits b) (item ws b ∷ [])
-
-unfoldable pub boundaryRows : List ℕ → List ℕ → List ℕ
-boundaryRows ws [] = []
-boundaryRows ws (b ∷ bs) = boundaryRow ws b ++ boundaryRows ws bs
-
-unfoldable pub indexRows : List ℕ → List ℕ → ℕ → ℕ → List ℕ
-indexRows ws bounds total moves = around (headed (ascii "index") (length ws) (ascii "keys") total (ascii "boundaries") (length bounds)) (boundaryRows ws bounds) moves
-
-unfoldable pub indexSet : PageLimits → List ℕ → Cost → List ℕ
-indexSet l ws none = refused 6 0
-indexSet l ws (some total) = indexRows ws (boundaries l ws) total (length (pointerMoves l ws))
-
-unfoldable pub indexChecked : PageLimits → List ℕ → Checked → List ℕ
-indexChecked l ws (Refuse r) = refusal r
-indexChecked l ws Accept = indexSet l ws (Index.best l ws 0)
-
-unfoldable pub indexListing : PageLimits → List ℕ → List ℕ
-indexListing l ws = indexChecked l ws (checked (pageLimitsHold l) ws [] [])
+unfoldable pub askedListing : Asked → List ℕ → List ℕ
+askedListing asked ws = checkedListing asked ws (checked (holds asked) ws [] [])
 
 -- ---- the job: "A job is read to its end before anything is set." Its lengths have room.
 unfoldable pub listed : Reading → List ℕ
 listed (refuse r) = refusal r
-listed (accept (AskedParagraph l) ws) = paragraphListing l ws
-listed (accept (AskedIndex l) ws) = indexListing l ws
+listed (accept asked ws) = askedListing asked ws
 
 unfoldable pub listingOf : List ℕ → List ℕ
 listingOf job = listed (reading job mostWords)

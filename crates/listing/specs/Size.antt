@@ -1,139 +1,164 @@
--- How many bytes the rows of a setting have: at most 81,979. Assumes nothing but what each law states.
-use Prim.Native.Nat.{ℕ, zero, suc, _+_, _*_, _^_, _≤_, _<_}
+-- No listing has more than 81,979 bytes, so that a buffer of that many is never too short. Assumes nothing but what each law states.
+use Prim.Native.Nat.{ℕ, suc, _+_, _*_, _^_, _≤_, _<_}
 use mathlib.Core.Path.{_≡_, refl}
+use mathlib.Core.Bool.{Bool, true, false, not}
 use mathlib.Core.List.{List, [], _∷_}
 use native.Mathlib.Omega.{arith}
+use borrow.Author.Tests.{ltb-false}
+use lib.Dec.{ltb, eqb}
 use lib.ListN.{length, getD, length-append}
-use Rattle.laws.specs.Cost.{some}
-use Rattle.laws.specs.Setting.{Problem, Choice, Admissible, admissible-early}
-use Rattle.paper.specs.declared.Limits.{Limits}
-use Rattle.paper.specs.declared.PageLimits.{PageLimits}
-use Rattle.paper.specs.Allowed.{limitsHold, pageLimitsHold, Passed}
-use Rattle.paper_theory.specs.Ranges.{ranges}
-use Rattle.paper.specs.Paragraph.{end, line, admissible, penalty, charge, paragraph, best, breaks}
-use Rattle.paper.specs.Index as Index
-use Rattle.paper.specs.Index.{item, index, boundaries}
-use Rattle.paper_theory.specs.Scale.{length-holds}
-use Rattle.paper_theory.specs.Bound.{admissible-lmax, charge-bound, paragraph-bound, index-bound}
-use Rattle.paper.specs.QueueRules.{queueMoves}
-use Rattle.paper.specs.PointerRules.{pointerMoves}
-use Rattle.paper_theory.specs.Cheapest.{paragraph-cheapest, index-cheapest}
-use Rattle.queue_theory.specs.Count.{at-most-2n}
-use Rattle.pointer_theory.specs.Count.{pointer-count}
-use Rattle.rows.specs.Rows.{ascii, digits}
+use Rattle.laws.specs.Cost.{Cost, none, some}
+use Rattle.laws.specs.Outcome.{Promise, Is}
+use Rattle.paper.specs.declared.Refusal.{Refusal}
+use Rattle.paper.specs.declared.Refusal.the-variants.{Empty, Many, Limits as BadLimits, Length, Room, Job as Malformed}
+use Rattle.paper.specs.declared.Checked.{Checked}
+use Rattle.paper.specs.declared.Checked.the-variants.{Accept, Refuse}
+use Rattle.paper.specs.Allowed.{mostWords, lengthHolds, Passed}
+use Rattle.paper.specs.Paragraph.{end}
+use Rattle.paper.specs.Told.{toldRefusal, checked, firstFailing, firstShort}
+use Rattle.refusals.specs.Accepted.{accepted}
+use Rattle.job.specs.declared.Asked.{Asked}
+use Rattle.job.specs.declared.Asked.the-variants.{Paragraph as AskedParagraph, Index as AskedIndex}
+use Rattle.job.specs.Reader.{Reading, refuse, accept, reading}
+use Rattle.job.specs.Bounds.{if-holds, Within, reading-within}
+use Rattle.rows.specs.Rows.{ascii}
 use Rattle.rows.specs.Digits.{digits-width}
 use Rattle.rows.specs.Size.{row-one, row-two}
-use Rattle.listing.specs.Listing.{headed, around, lineRow, lineRows, paragraphRows, boundaryRow, boundaryRows, indexRows}
+use Rattle.rows.specs.Puts.{sizes}
+use Rattle.listing.specs.declared.Listed.{Listed}
+use Rattle.listing.specs.declared.Listed.the-variants.{Written}
+use Rattle.listing.specs.Listing.{refused, refusal, holds, least, parts, moved, headed, head, partRow, partRows, movesRow}
+use Rattle.listing.specs.Listing.{costListing, checkedListing, askedListing, listed, listingOf}
+use Rattle.listing.specs.Asks.{Parts}
+use Rattle.listing.specs.Settings.{four-digits, part-size, SetIs, set-is}
+use Rattle.listing.specs.Promise.{outcome}
+use Rattle.listing.specs.Given.{with-room}
 
 abbrev pub mostBytes : ℕ
 mostBytes = 81979
 
--- a number that is listed: one of a text, one of its moves
-wide4 : (x : ℕ) → x < 10 ^ 4 → length (digits x) ≤ 4
-wide4 x h = digits-width 4 x h (omega arith)
-
--- ---- the whole, around its rows
-around-size : (kind cost parts rows : List ℕ) (n total count moves : ℕ) → n ≤ 4096 → total < 2 ^ 40 → count ≤ 4096 → moves ≤ 8192 →
-    length (around (headed kind n cost total parts count) rows moves) ≤ length kind + length cost + length parts + 38 + length rows
-unfolding around headed
-around-size kind cost parts rows n total count moves hn ht hc hm =
+-- ---- the rows of a setting
+headed-size : (kind : List ℕ) (n : ℕ) (cost : List ℕ) (total : ℕ) (parts : List ℕ) (count : ℕ) →
+    n ≤ mostWords → total < 2 ^ 40 → count ≤ mostWords →
+    length (headed kind n cost total parts count) ≤ length kind + length cost + length parts + 27
+headed-size kind n cost total parts count hn ht hc =
     simp length-append
     (omega (
       arith,
       row-one kind n,
       row-one cost total,
       row-one parts count,
-      row-one (ascii "moves") moves,
-      wide4 n (omega arith),
+      four-digits n (omega arith),
       digits-width 13 total (omega arith) (omega arith),
-      wide4 count (omega arith),
-      wide4 moves (omega arith),
+      four-digits count (omega arith),
     ))
 
--- ---- a setting has no more lines than words
-pub setting-count : (p : Problem) (i : ℕ) (js : List ℕ) → Admissible p i js → i + length js < p .end
-setting-count p i [] h = omega (arith, h .rises)
-setting-count p i (j ∷ js) h = omega (arith, h .0 .rises, setting-count p j js (h .1))
+head-size : (asked : Asked) (n total count : ℕ) →
+    n ≤ mostWords → total < 2 ^ 40 → count ≤ mostWords → length (head asked n total count) ≤ 48
+unfolding head
+head-size (AskedParagraph l) n total count hn ht hc =
+    omega (arith, headed-size (ascii "paragraph") n (ascii "penalty") total (ascii "lines") count hn ht hc)
+head-size (AskedIndex l) n total count hn ht hc =
+    omega (arith, headed-size (ascii "index") n (ascii "keys") total (ascii "boundaries") count hn ht hc)
 
--- ---- the paragraph
-none-more : (l : Limits) (ws : List ℕ) → length (lineRows l ws []) ≡ 0
-unfolding lineRows
-none-more l ws = refl
+parts-size : (asked : Asked) (ws : List ℕ) → Passed (holds asked) ws → (is : List ℕ) → Parts asked ws is →
+    length (partRows asked ws is) ≤ 20 * length is
+unfolding partRows
+parts-size asked ws passed [] all = omega arith
+parts-size asked ws passed (i ∷ is) all =
+    let next = getD is 0 (end ws) in
+    omega (
+      arith,
+      length-append (partRow asked ws i next) (partRows asked ws is),
+      part-size asked ws i next passed (all .each 0 (omega arith)),
+      parts-size asked ws passed is (record { each = λ k h. all .each (suc k) (omega arith) }),
+    )
 
-one-more : (l : Limits) (ws : List ℕ) (i : ℕ) (js : List ℕ) →
-    length (lineRows l ws (i ∷ js)) ≡ length (lineRow l ws i (getD js 0 (end ws))) + length (lineRows l ws js)
-unfolding lineRows
-one-more l ws i js = length-append (lineRow l ws i (getD js 0 (end ws))) (lineRows l ws js)
+pub set-size : (asked : Asked) (ws : List ℕ) → Passed (holds asked) ws → (total : ℕ) → SetIs asked ws (parts asked ws) total →
+    sizes (head asked (length ws) total (length (parts asked ws)) ∷ partRows asked ws (parts asked ws) ∷ movesRow (moved asked ws) ∷ [])
+    ≤ mostBytes
+set-size asked ws passed total s =
+    omega (
+      arith,
+      head-size asked (length ws) total (length (parts asked ws)) (passed .few) (s .small) (omega (arith, s .few, passed .few)),
+      parts-size asked ws passed (parts asked ws) (s .all),
+      row-one (ascii "moves") (moved asked ws),
+      four-digits (moved asked ws) (omega (arith, s .moves, passed .few)),
+      s .few,
+      passed .few,
+    )
 
-module _ (l : Limits) (ws : List ℕ) (passed : Passed (limitsHold l) ws) where
-  line-size : (i j : ℕ) → Choice (paragraph l ws) i j → length (lineRow l ws i j) ≤ 20
-  unfolding paragraph lineRow
-  line-size i j c =
-      let m : line ws i j ≤ l .lmax = admissible-lmax l ws i j (c .admissible) in
-      omega (
-        arith,
-        row-two (digits i) (line ws i j) (charge l ws i j),
-        wide4 i (omega (arith, c .rises, c .within, passed .few)),
-        wide4 (line ws i j) (omega (arith, ranges l (passed .limits) .lmax-high)),
-        digits-width 9 (charge l ws i j) (omega (arith, charge-bound l (ranges l (passed .limits)) ws i j m)) (omega arith),
-      )
+-- ---- a refusal: its number has one digit, its place at most five
+refused-size : (number place : ℕ) → number < 10 → place < 10 ^ 5 → length (refused number place) ≤ 16
+unfolding refused
+refused-size number place h g =
+    omega (
+      arith,
+      row-two (ascii "refused") number place,
+      digits-width 1 number (omega arith) (omega arith),
+      digits-width 5 place g (omega arith),
+    )
 
-  lines-size : (i : ℕ) (js : List ℕ) → Admissible (paragraph l ws) i js → length (lineRows l ws (i ∷ js)) ≤ 20 + 20 * length js
-  unfolding paragraph
-  lines-size i [] h = omega (arith, one-more l ws i [], none-more l ws, line-size i (end ws) h)
-  lines-size i (j ∷ js) h = omega (arith, one-more l ws i (j ∷ js), line-size i j (h .0), lines-size j js (h .1))
+one-digit : (r : Refusal) → toldRefusal r .number < 10
+unfolding toldRefusal
+one-digit Empty = omega arith
+one-digit Many = omega arith
+one-digit BadLimits = omega arith
+one-digit (Length word) = omega arith
+one-digit (Room strip) = omega arith
+one-digit (Malformed offset) = omega arith
 
-  -- the rows of the setting that is given
-  pub paragraph-size : (total : ℕ) → best l ws 1 ≡ some total → length (paragraphRows l ws (breaks l ws) total (length (queueMoves l ws))) ≤ mostBytes
-  unfolding paragraphRows paragraph
-  paragraph-size total e =
-      let r = ranges l (passed .limits) in
-      let right = paragraph-cheapest l ws (r .lopt-high) (passed .words) total e in
-      let a : Admissible (paragraph l ws) 1 (right .0) = right .3 .admissible in
-      let n : 1 + length (right .0) < end ws = setting-count (paragraph l ws) 1 (right .0) a in
-      let b : breaks l ws ≡ 1 ∷ right .0 = right .1 in
-      rw b
-      (omega (
-        arith,
-        passed .few,
-        lines-size 1 (right .0) a,
-        around-size (ascii "paragraph") (ascii "penalty") (ascii "lines") (lineRows l ws (1 ∷ right .0)) (length ws) total (length (1 ∷ right .0)) (length (queueMoves l ws))
-            (passed .few) (paragraph-bound l r ws (passed .few) 1 total (omega arith) (omega arith) e) (omega (arith, passed .few)) (omega (arith, at-most-2n l ws passed, passed .few)),
-      ))
+refusal-size : (r : Refusal) → toldRefusal r .place < 10 ^ 5 → length (refusal r) ≤ 16
+unfolding refusal
+refusal-size r h = refused-size (toldRefusal r .number) (toldRefusal r .place) (one-digit r) h
 
--- ---- the index
-no-boundary : (ws : List ℕ) → length (boundaryRows ws []) ≡ 0
-unfolding boundaryRows
-no-boundary ws = refl
+-- a length that fails is one of the words
+failing-within : (k : ℕ) (ws : List ℕ) → firstFailing lengthHolds k ws ≤ k + length ws
+unfolding firstFailing
+failing-within k [] = omega arith
+failing-within k (w ∷ ws) = go (lengthHolds w) (failing-within (suc k) ws)
+  where
+    go : (b : Bool) → firstFailing lengthHolds (suc k) ws ≤ suc k + length ws →
+        elim b [ true ↦ firstFailing lengthHolds (suc k) ws | false ↦ k ] ≤ k + suc (length ws)
+    go true h = omega arith
+    go false h = omega arith
 
-one-boundary : (ws : List ℕ) (b : ℕ) (bs : List ℕ) → length (boundaryRows ws (b ∷ bs)) ≡ length (boundaryRow ws b) + length (boundaryRows ws bs)
-unfolding boundaryRows
-one-boundary ws b bs = length-append (boundaryRow ws b) (boundaryRows ws bs)
+abbrev PlaceFew : Checked → Type 0
+PlaceFew Accept = Unit {0}
+PlaceFew (Refuse r) = toldRefusal r .place < 10 ^ 5
 
-module _ (l : PageLimits) (ws : List ℕ) (passed : Passed (pageLimitsHold l) ws) where
-  boundary-size : (b : ℕ) → b < end ws → length (boundaryRow ws b) ≤ 20
-  unfolding boundaryRow item
-  boundary-size b h = omega (arith, row-one (digits b) (item ws b), wide4 b (omega (arith, passed .few)), wide4 (item ws b) (small b h))
-    where
-      small : (b : ℕ) → b < end ws → getD (0 ∷ ws) b 0 < 10 ^ 4
-      small zero h = omega arith
-      small (suc k) h = omega (arith, length-holds ws (passed .lengths) k (omega arith) .1)
+checked-few : (hold : Bool) (ws : List ℕ) → PlaceFew (checked hold ws [] [])
+unfolding checked firstShort toldRefusal
+checked-few hold ws =
+    let step = if-holds PlaceFew in
+    let bad = firstFailing lengthHolds 1 ws in
+    step (eqb (length ws) 0) _ _ (λ t. omega arith) (λ some. step (ltb mostWords (length ws)) _ _ (λ t. omega arith) (λ few.
+    step (not hold) _ _ (λ t. omega arith) (λ hold. step (not (eqb bad 0)) _ _
+    (λ t. omega (arith, failing-within 1 ws, ltb-false mostWords (length ws) few)) (λ all. tt))))
 
-  boundaries-size : (i : ℕ) (js : List ℕ) → Admissible (index l ws) i js → length (boundaryRows ws js) ≤ 20 * length js
-  unfolding index
-  boundaries-size i [] h = omega (arith, no-boundary ws)
-  boundaries-size i (j ∷ js) h = omega (arith, one-boundary ws j js, boundary-size j (admissible-early (index l ws) j js (h .1)), boundaries-size j js (h .1))
+-- ---- any listing
+asked-size : (asked : Asked) (ws : List ℕ) → length (askedListing asked ws) ≤ mostBytes
+unfolding askedListing checkedListing costListing
+asked-size asked ws = checked-size (checked (holds asked) ws [] []) refl (checked-few (holds asked) ws)
+  where
+    cost-size : Passed (holds asked) ws → (c : Cost) → least asked ws ≡ c → length (costListing asked ws c) ≤ mostBytes
+    cost-size passed none e = omega (arith, refused-size 6 0 (omega arith) (omega arith))
+    cost-size passed (some v) e = simp length-append (omega (arith, set-size asked ws passed v (set-is asked ws passed v e)))
 
-  pub index-size : (total : ℕ) → Index.best l ws 0 ≡ some total → length (indexRows ws (boundaries l ws) total (length (pointerMoves l ws))) ≤ mostBytes
-  unfolding indexRows index
-  index-size total e =
-      let a : Admissible (index l ws) 0 (boundaries l ws) = index-cheapest l ws total e .1 .admissible in
-      let n : 0 + length (boundaries l ws) < end ws = setting-count (index l ws) 0 (boundaries l ws) a in
-      let t : total < 2 ^ 25 = index-bound l ws (passed .lengths) (passed .few) 0 total (omega arith) e in
-      omega (
-        arith,
-        passed .few,
-        boundaries-size 0 (boundaries l ws) a,
-        around-size (ascii "index") (ascii "keys") (ascii "boundaries") (boundaryRows ws (boundaries l ws)) (length ws) total (length (boundaries l ws)) (length (pointerMoves l ws))
-            (passed .few) (omega arith) (omega (arith, passed .few)) (omega (arith, pointer-count l ws, passed .few)),
-      )
+    checked-size : (c : Checked) → checked (holds asked) ws [] [] ≡ c → PlaceFew c → length (checkedListing asked ws c) ≤ mostBytes
+    checked-size (Refuse r) e p = omega (arith, refusal-size r p)
+    checked-size Accept e p = cost-size (accepted (holds asked) ws [] [] e .passed) (least asked ws) refl
+
+listed-size : (o : Reading) → Within mostWords o → length (listed o) ≤ mostBytes
+unfolding listed
+listed-size (refuse r) h = omega (arith, refusal-size r (omega (arith, h)))
+listed-size (accept asked ws) h = asked-size asked ws
+
+pub listing-size : (job : List ℕ) → length (listingOf job) ≤ mostBytes
+unfolding listingOf
+listing-size job = listed-size (reading job mostWords) (reading-within job mostWords)
+
+-- A buffer of so many bytes always gets the listing.
+pub always-written : (job s : List ℕ) {r : Listed} {t : List ℕ} → mostBytes ≤ length s → Promise Is (outcome (listingOf job) s) r t →
+    r ≡ Written (length (listingOf job))
+always-written job s room p = with-room (listingOf job) s p (omega (arith, listing-size job)) .0

@@ -1,36 +1,14 @@
 // The row of a refusal.
 use crate::Listed;
 use job::Job;
-use paper::Answer;
 use refusals::Reason;
 use refusals::told_refusal;
 use rows::named;
-ghost use Rattle.paper.specs.Told.{told};
 ghost use Rattle.job.specs.Promise.{toldJob};
 ghost use Rattle.listing.specs.Listing.{refused as refusedRow};
-ghost use Rattle.listing.specs.Promise.{outcome, Promise};
+ghost use Rattle.listing.specs.Promise.{outcome};
+ghost use Rattle.laws.specs.Outcome.{Promise, Is};
 ghost use Rattle.refusals.specs.Tells.{Tells};
-
-// Of a setter's answer; 0 where a setting is given.
-pub fn told_answer(a: Answer) -> Reason
-    ensures { λ t. ⌜ Tells (told a .number) (told a .place) t ⌝ }
-{
-    match a {
-        Answer::Set {
-            total: _,
-            lines: _,
-            moves: _,
-        } => Reason {
-            number: 0,
-            place: 0,
-        },
-        Answer::None { moves: _ } => Reason {
-            number: 6,
-            place: 0,
-        },
-        Answer::Refused(r) => told_refusal(r),
-    }
-}
 
 // Of the reader's answer; 0 where the job is read.
 pub fn told_job(j: Job) -> Reason
@@ -46,7 +24,7 @@ pub fn told_job(j: Job) -> Reason
 }
 
 pub fn refused(reason: Reason, out: &mut [u8]) -> Listed
-    ensures { λ r. ⌜ Promise (outcome (refusedRow (reason .number) (reason .place)) (now (out .entry))) r (now (out .exit)) ⌝ }
+    ensures { λ r. ⌜ Promise Is (outcome (refusedRow (reason .number) (reason .place)) (now (out .entry))) r (now (out .exit)) ⌝ }
 {
     let number = reason.number as u64;
     let place = reason.place as u64;

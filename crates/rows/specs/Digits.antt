@@ -1,6 +1,6 @@
--- Decimal digits: one turn, that they say the number, and how many there are. Assumes nothing.
-use Prim.Native.Nat.{ℕ, zero, suc, _+_, _-_, _*_, _/_, _%_, _^_, _≤_, _<_}
-use mathlib.Core.Path.{_≡_, refl, ap, sym, _∙_}
+-- Decimal digits: one turn, and how many there are. Assumes nothing.
+use Prim.Native.Nat.{ℕ, zero, suc, _+_, _/_, _%_, _^_, _≤_, _<_}
+use mathlib.Core.Path.{_≡_, ap, sym, _∙_}
 use mathlib.Core.Logic.{⊎-elim}
 use mathlib.Core.List.{List, [], _∷_, _++_}
 use native.Mathlib.Omega.{arith}
@@ -8,7 +8,7 @@ use native.Mathlib.Nat.{pow-suc}
 use native.Mathlib.Numerals.{add-one}
 use borrow.Author.Tests.{lt-ltb, le-ltb}
 use lib.Dec.{ltb}
-use lib.ListN.{length, getD, length-append}
+use lib.ListN.{length, length-append}
 use Rattle.laws.specs.Number.{split, when-true, when-false}
 use Rattle.rows.specs.Rows.{digit, digitsIn, digits}
 
@@ -27,7 +27,8 @@ enough zero e x h g = absurd (omega arith)
 enough (suc d) zero x h g = absurd (omega arith)
 enough (suc d) (suc e) x h g =
     ⊎-elim
-    (λ f. in-more d x f ∙ ap (λ (l : List ℕ). l ++ (digit (x % 10) ∷ [])) (enough d e (x / 10) (omega arith) (omega arith)) ∙ sym (in-more e x f))
+    (λ f. in-more d x f ∙ ap (λ (l : List ℕ). l ++ (digit (x % 10) ∷ [])) (enough d e (x / 10) (omega arith) (omega arith))
+    ∙ sym (in-more e x f))
     (λ f. in-one d x f ∙ sym (in-one e x f))
     (split 10 x)
 
@@ -38,7 +39,8 @@ digits-one x h = rw (add-one x) (in-one x x h)
 pub digits-more : (x : ℕ) → 10 ≤ x → digits x ≡ digits (x / 10) ++ (digit (x % 10) ∷ [])
 unfolding digits
 digits-more x h =
-    rw (add-one x) (in-more x x h ∙ ap (λ (l : List ℕ). l ++ (digit (x % 10) ∷ [])) (enough x (x / 10 + 1) (x / 10) (omega arith) (omega arith)))
+    rw (add-one x)
+    (in-more x x h ∙ ap (λ (l : List ℕ). l ++ (digit (x % 10) ∷ [])) (enough x (x / 10 + 1) (x / 10) (omega arith) (omega arith)))
 
 -- ---- a number below 10^k has at most k digits
 pub digits-width : (k x : ℕ) → x < 10 ^ k → 1 ≤ k → length (digits x) ≤ k
@@ -47,47 +49,10 @@ digits-width (suc zero) x h g = omega (arith, ap length (digits-one x h))
 digits-width (suc (suc k)) x h g =
     ⊎-elim
     (λ f. let less : x / 10 < 10 ^ suc k = omega (arith, pow-suc 10 (suc k)) in
-    omega (arith, ap length (digits-more x f) ∙ length-append (digits (x / 10)) (digit (x % 10) ∷ []), digits-width (suc k) (x / 10) less (omega arith)))
+    omega (
+      arith,
+      ap length (digits-more x f) ∙ length-append (digits (x / 10)) (digit (x % 10) ∷ []),
+      digits-width (suc k) (x / 10) less (omega arith),
+    ))
     (λ f. omega (arith, ap length (digits-one x f)))
     (split 10 x)
-
--- ---- the number that digits say
-unfoldable pub said : ℕ → List ℕ → ℕ
-said n [] = n
-said n (d ∷ ds) = said (10 * n + (d - 48)) ds
-
-said-append : (n : ℕ) (xs ys : List ℕ) → said n (xs ++ ys) ≡ said (said n xs) ys
-unfolding said
-said-append n [] ys = refl
-said-append n (x ∷ xs) ys = said-append (10 * n + (x - 48)) xs ys
-
-said-in : (d x : ℕ) → x < d → said 0 (digitsIn d x) ≡ x
-unfolding said
-said-in zero x h = absurd (omega arith)
-said-in (suc d) x h =
-    ⊎-elim
-    (λ f. ap (said 0) (in-more d x f) ∙ said-append 0 (digitsIn d (x / 10)) (digit (x % 10) ∷ []) ∙ omega (arith, said-in d (x / 10) (omega arith)))
-    (λ f. ap (said 0) (in-one d x f) ∙ omega arith)
-    (split 10 x)
-
--- The digits of a number say it.
-pub digits-said : (x : ℕ) → said 0 (digits x) ≡ x
-unfolding digits
-digits-said x = said-in (x + 1) x (omega arith)
-
--- ---- no leading zero
-front : (l m : List ℕ) → 48 < getD l 0 0 → 48 < getD (l ++ m) 0 0
-front [] m h = absurd (omega arith)
-front (x ∷ l) m h = h
-
-leading-in : (d x : ℕ) → x < d → 1 ≤ x → 48 < getD (digitsIn d x) 0 0
-leading-in zero x h g = absurd (omega arith)
-leading-in (suc d) x h g =
-    ⊎-elim
-    (λ f. rw (in-more d x f) (front (digitsIn d (x / 10)) (digit (x % 10) ∷ []) (leading-in d (x / 10) (omega arith) (omega arith))))
-    (λ f. rw (in-one d x f) (omega arith))
-    (split 10 x)
-
-pub digits-leading : (x : ℕ) → 1 ≤ x → 48 < getD (digits x) 0 0
-unfolding digits
-digits-leading x h = leading-in (x + 1) x (omega arith) h

@@ -8,11 +8,16 @@ use native.Mathlib.Numerals.{add-one}
 use native.Mathlib.Omega.{arith}
 use lib.ListN.{length, getD, drop, length-append, drop-of-length-le}
 use lib.Seq.{sets, length-sets, sets-eq, drop-cons}
-use Rattle.laws.specs.Strip.{over, append-nil}
+use Rattle.laws.specs.Strip.{over}
 
--- the place after the bytes is a number
-pub record Fits (at : ℕ) (bytes : List ℕ) : Type 0 where
-  pub fits : at + length bytes < 2 ^ 64
+-- how many bytes runs of them have
+abbrev pub sizes : List (List ℕ) → ℕ
+sizes [] = 0
+sizes (run ∷ runs) = length run + sizes runs
+
+-- the place after runs of bytes, one after the other, is a number
+pub record Fits (at : ℕ) (runs : List (List ℕ)) : Type 0 where
+  pub fits : at + sizes runs < 2 ^ 64
 
 -- the bytes stand from the place `at` on, as far as the buffer goes, and `next` is the place after them
 pub record Puts (bytes : List ℕ) (at : ℕ) (s : List ℕ) (next : ℕ) (t : List ℕ) : Type 0 where
@@ -30,84 +35,58 @@ puts-then {xs = xs} {ys = ys} {s = s} {at = at} {next = next} p q = record {
   written = q .written ∙ ap (λ (t : List ℕ). sets t next ys) (p .written) ∙ sets-append xs ys s at next (p .place);
 }
 
-pub puts-none : (s : List ℕ) (at : ℕ) → Puts [] at s at s
-puts-none s at = record { place = omega arith; written = refl }
+pub puts-none : {s : List ℕ} {at : ℕ} → Puts [] at s at s
+puts-none = record { place = omega arith; written = refl }
 
 pub puts-length : {xs s t : List ℕ} {at next : ℕ} → Puts xs at s next t → length t ≡ length s
 puts-length {xs = xs} {s = s} {at = at} p = ap length (p .written) ∙ length-sets s at xs
 
--- ---- three runs of bytes, one after the other
-module _ (xs ys zs : List ℕ) (at : ℕ) (f : Fits at (xs ++ (ys ++ zs))) where
-  three-size : length (xs ++ (ys ++ zs)) ≡ length xs + (length ys + length zs)
-  three-size = simp length-append
-
-  pub three-first : Fits at xs
-  three-first = omega (arith, three-size)
-
-  module _ {s t : List ℕ} {next : ℕ} (p : Puts xs at s next t) where
-    pub three-second : Fits next ys
-    three-second = omega (arith, three-size, p .place)
-
-    module _ {u : List ℕ} {after : ℕ} (q : Puts ys next t after u) where
-      pub three-third : Fits after zs
-      three-third = omega (arith, three-size, p .place, q .place)
-
-      pub three-put : {end : ℕ} {v : List ℕ} → Puts zs after u end v → Puts (xs ++ (ys ++ zs)) at s end v
-      three-put r = puts-then p (puts-then q r)
-
--- ---- of the whole, some bytes are put, and others are still to come
-pub record Going (whole left : List ℕ) (at : ℕ) (s : List ℕ) (next : ℕ) (t : List ℕ) : Type 0 where
-  pub done : List ℕ
-  pub all : whole ≡ done ++ left
-  pub puts : Puts done at s next t
-
-pub going-first : (whole s : List ℕ) (at : ℕ) → Going whole whole at s at s
-going-first whole s at = record { done = []; all = refl; puts = puts-none s at }
-
-pub going-more : {whole left xs s t u : List ℕ} {at next end : ℕ} → Going whole (xs ++ left) at s next t → Puts xs next t end u → Going whole left at s end u
-going-more {left = left} {xs = xs} g p = record {
-  done = g .done ++ xs;
-  all = g .all ∙ sym (append-assoc (g .done) xs left);
-  puts = puts-then (g .puts) p;
-}
-
--- the rest, said in another way
-pub going-same : {whole left more s t : List ℕ} {at next : ℕ} → left ≡ more → Going whole left at s next t → Going whole more at s next t
-going-same e g = record { done = g .done; all = g .all ∙ ap (λ (l : List ℕ). g .done ++ l) e; puts = g .puts }
-
-pub going-end : {whole s t : List ℕ} {at next : ℕ} → Going whole [] at s next t → Puts whole at s next t
-going-end g = rw (g .all ∙ append-nil (g .done)) (g .puts)
-
-pub going-length : {whole left s t : List ℕ} {at next : ℕ} → Going whole left at s next t → length t ≡ length s
-going-length g = puts-length (g .puts)
-
-pub going-fits : {whole left s t : List ℕ} {at next : ℕ} → Fits at whole → Going whole left at s next t → Fits next left
-going-fits {left = left} f g = omega (arith, g .puts .place, ap length (g .all) ∙ length-append (g .done) left)
-
-pub going-fits-next : (xs left : List ℕ) {whole s t : List ℕ} {at next : ℕ} → Fits at whole → Going whole (xs ++ left) at s next t → Fits next xs
-going-fits-next xs left f g = omega (arith, going-fits f g, length-append xs left)
-
 -- ---- bytes made of a list, entry by entry: those of the first k are put
 pub record Along (f : List ℕ → List ℕ) (xs : List ℕ) (k at : ℕ) (s : List ℕ) (next : ℕ) (t : List ℕ) : Type 0 where
   pub within : k ≤ length xs
-  pub going : Going (f xs) (f (drop k xs)) at s next t
+  pub done : List ℕ
+  pub all : f xs ≡ done ++ f (drop k xs)
+  pub puts : Puts done at s next t
 
-module _ (f : List ℕ → List ℕ) (xs : List ℕ) (at : ℕ) (s : List ℕ) where
-  pub along-first : Along f xs 0 at s at s
-  along-first = record { within = omega arith; going = going-first (f xs) s at }
+pub along-first : {f : List ℕ → List ℕ} {xs s : List ℕ} {at : ℕ} → Along f xs 0 at s at s
+along-first = record { within = omega arith; done = []; all = refl; puts = puts-none }
 
-  module _ (k next : ℕ) (t : List ℕ) (a : Along f xs k at s next t) where
-    -- one entry more, whose bytes come next
-    module _ (piece : ℕ → List ℕ → List ℕ) (one : (x : ℕ) (rest : List ℕ) → f (x ∷ rest) ≡ piece x rest ++ f rest) (more : k < length xs) where
-      pub along-next : Going (f xs) (piece (getD xs k 0) (drop (k + 1) xs) ++ f (drop (k + 1) xs)) at s next t
-      along-next =
-          going-same (ap f (drop-cons xs k 0 more ∙ ap (λ (m : ℕ). getD xs k 0 ∷ drop m xs) (sym (add-one k))) ∙ one (getD xs k 0) (drop (k + 1) xs)) (a .going)
+module _ {f : List ℕ → List ℕ} {xs : List ℕ} {k at : ℕ} {s : List ℕ} {next : ℕ} {t : List ℕ} (a : Along f xs k at s next t) where
+  pub along-length : length t ≡ length s
+  along-length = puts-length (a .puts)
 
-      pub along-more : (end : ℕ) (u : List ℕ) → Puts (piece (getD xs k 0) (drop (k + 1) xs)) next t end u → Along f xs (k + 1) at s end u
-      along-more end u p = record { within = omega arith; going = going-more along-next p }
+  left-fits : {rest : List ℕ} → f (drop k xs) ≡ rest → Fits at (f xs ∷ []) → Fits next (rest ∷ [])
+  left-fits e room = omega (arith, a .puts .place, ap length (a .all) ∙ length-append (a .done) (f (drop k xs)), ap length e)
 
-    pub along-end : length xs ≤ k → Going (f xs) (f []) at s next t
-    along-end h = going-same (ap f (drop-of-length-le xs {i = k} h)) (a .going)
+  -- one entry more, whose bytes come next
+  module _ (more : k < length xs) where
+    next-is : (piece : List ℕ) → f (getD xs k 0 ∷ drop (k + 1) xs) ≡ piece ++ f (drop (k + 1) xs) →
+        f (drop k xs) ≡ piece ++ f (drop (k + 1) xs)
+    next-is piece one = ap f (drop-cons xs k 0 more ∙ ap (λ (m : ℕ). getD xs k 0 ∷ drop m xs) (sym (add-one k))) ∙ one
+
+    pub along-fits : {piece : List ℕ} → f (getD xs k 0 ∷ drop (k + 1) xs) ≡ piece ++ f (drop (k + 1) xs) →
+        Fits at (f xs ∷ []) → Fits next (piece ∷ [])
+    along-fits {piece} one room = omega (arith, left-fits (next-is piece one) room, length-append piece (f (drop (k + 1) xs)))
+
+    pub along-more : {piece : List ℕ} → f (getD xs k 0 ∷ drop (k + 1) xs) ≡ piece ++ f (drop (k + 1) xs) → {end : ℕ} {u : List ℕ} →
+        Puts piece next t end u → Along f xs (k + 1) at s end u
+    along-more {piece} one p = record {
+      within = omega arith;
+      done = a .done ++ piece;
+      all = a .all ∙ ap (λ (l : List ℕ). a .done ++ l) (next-is piece one) ∙ sym (append-assoc (a .done) piece (f (drop (k + 1) xs)));
+      puts = puts-then (a .puts) p;
+    }
+
+  -- no entry is left: what is made of none comes next
+  module _ (last : length xs ≤ k) where
+    last-is : f (drop k xs) ≡ f []
+    last-is = ap f (drop-of-length-le xs {i = k} last)
+
+    pub last-fits : Fits at (f xs ∷ []) → Fits next (f [] ∷ [])
+    last-fits = left-fits last-is
+
+    pub along-end : {end : ℕ} {u : List ℕ} → Puts (f []) next t end u → Puts (f xs) at s end u
+    along-end p = rw (a .all ∙ ap (λ (l : List ℕ). a .done ++ l) last-is) (puts-then (a .puts) p)
 
 -- ---- from the front of a buffer
 -- where there is room, the bytes stand at the front, and the rest is as it was

@@ -41,7 +41,8 @@ unfoldable pub row : List ℕ → List ℕ → List ℕ
 row first xs = first ++ ended xs
 
 -- ---- worked rows
-worked-digits : map digits (0 ∷ 7 ∷ 10 ∷ 4096 ∷ 18446744073709551615 ∷ []) ≡ map ascii ("0" ∷ "7" ∷ "10" ∷ "4096" ∷ "18446744073709551615" ∷ [])
+worked-digits : map digits (0 ∷ 7 ∷ 10 ∷ 4096 ∷ 18446744073709551615 ∷ [])
+    ≡ map ascii ("0" ∷ "7" ∷ "10" ∷ "4096" ∷ "18446744073709551615" ∷ [])
 unfolding digits digitsIn
 worked-digits = refl
 

@@ -8,7 +8,7 @@ ghost use Rattle.rows.specs.Puts.{Fits, Puts};
 
 // Puts a byte. Answers the next place.
 fn put(out: &mut [u8], at: usize, byte: u8) -> usize
-    requires { ⌜ Fits at (byte ∷ []) ⌝ }
+    requires { ⌜ Fits at ((byte ∷ []) ∷ []) ⌝ }
     ensures { λ r. ⌜ Puts (byte ∷ []) at (now (out .entry)) r (now (out .exit)) ⌝ }
 {
     if out.len() <= at {
@@ -20,7 +20,7 @@ fn put(out: &mut [u8], at: usize, byte: u8) -> usize
 
 // Puts a word.
 fn text(out: &mut [u8], at: usize, word: &[u8]) -> usize
-    requires { ⌜ Fits at (now word) ⌝ }
+    requires { ⌜ Fits at (now word ∷ []) ⌝ }
     ensures { λ r. ⌜ Puts (now (word .entry)) at (now (out .entry)) r (now (out .exit)) ⌝ }
 {
     let mut next = at;
@@ -42,7 +42,7 @@ fn digit_of(x: u64) -> u8
 
 // Puts a number in decimal: the digits before its last one, and then that.
 pub fn number(out: &mut [u8], at: usize, x: u64) -> usize
-    requires { ⌜ Fits at (digits x) ⌝ }
+    requires { ⌜ Fits at (digits x ∷ []) ⌝ }
     ensures { λ r. ⌜ Puts (digits x) at (now (out .entry)) r (now (out .exit)) ⌝ }
 {
     if x < 10 {
@@ -54,7 +54,7 @@ pub fn number(out: &mut [u8], at: usize, x: u64) -> usize
 
 // Puts numbers, each after a space, and ends the row.
 fn end(out: &mut [u8], at: usize, numbers: &[u64]) -> usize
-    requires { ⌜ Fits at (ended (now numbers)) ⌝ }
+    requires { ⌜ Fits at (ended (now numbers) ∷ []) ⌝ }
     ensures { λ r. ⌜ Puts (ended (now (numbers .entry))) at (now (out .entry)) r (now (out .exit)) ⌝ }
 {
     let mut next = at;
@@ -69,7 +69,7 @@ fn end(out: &mut [u8], at: usize, numbers: &[u64]) -> usize
 
 // Puts a row that begins with a word.
 pub fn named(out: &mut [u8], at: usize, word: &[u8], numbers: &[u64]) -> usize
-    requires { ⌜ Fits at (row (now word) (now numbers)) ⌝ }
+    requires { ⌜ Fits at (row (now word) (now numbers) ∷ []) ⌝ }
     ensures { λ r. ⌜ Puts (row (now (word .entry)) (now (numbers .entry))) at (now (out .entry)) r (now (out .exit)) ⌝ }
 {
     let next = text(out, at, word);
@@ -78,7 +78,7 @@ pub fn named(out: &mut [u8], at: usize, word: &[u8], numbers: &[u64]) -> usize
 
 // Puts a row that begins with a number.
 pub fn numbered(out: &mut [u8], at: usize, first: u64, numbers: &[u64]) -> usize
-    requires { ⌜ Fits at (row (digits first) (now numbers)) ⌝ }
+    requires { ⌜ Fits at (row (digits first) (now numbers) ∷ []) ⌝ }
     ensures { λ r. ⌜ Puts (row (digits first) (now (numbers .entry))) at (now (out .entry)) r (now (out .exit)) ⌝ }
 {
     let next = number(out, at, first);

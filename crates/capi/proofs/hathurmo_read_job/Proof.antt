@@ -10,7 +10,7 @@ use Rattle.capi.proofs.hathurmo_read_job.Tie as tie
 returns : tie.Need-returns
 returns c =
     let read = c .before .before .before .read .ensures in
-    record { tells = c .tell-job .ensures ∙ ap (λ (j : Job). inJobNumbers (toldJob j)) (read .answered); strips = read .left }
+    record { tells = c .tell-job .ensures ∙ ap (λ (j : Job). inJobNumbers (toldJob j)) (read .tells); strips = read .strips }
 
 pub hathurmo-read-job-spec : {M : Type 1} → statement M
 hathurmo-read-job-spec = tie.close (tie.spec (λ c κs. search needs) (λ c κs. search needs) (λ c. search needs) returns)

@@ -1,45 +1,26 @@
--- `job::read` keeps the promise: each way out is a law of the first count. Assumes nothing.
-use mathlib.Core.Path.{refl, _∙_}
+-- `job::read` keeps the promise: a first count that is cut is refused, one that is whole is handed on. Assumes nothing.
+use mathlib.Core.Path.{refl}
+use Prim.Native.Nat.{_≤_}
+use native.Mathlib.Omega.{arith}
 use borrow.Author.Needs.{needs}
-use Rattle.job.specs.Reader.{readOutcome}
-use Rattle.job.proofs.Answers.{refused, first-cut, first-whole, neither}
+use denote.Ref.{now}
+use lib.ListN.{length}
+use Rattle.job.specs.Reader.{reading, readOutcome}
+use Rattle.job.specs.Section.{count-whole, count-cut}
+use Rattle.job.proofs.Answers.{refused}
 use Rattle.job.proofs.read.Statement.{statement}
 use Rattle.job.proofs.read.Tie as tie
 
 returns : tie.Need-returns
-unfolding readOutcome
-returns c = refused _ _ _ _ (first-cut _ _ (c .before .before .section .ensures) (c .if1 .taken)) refl
+unfolding readOutcome reading
+returns c = refused (count-cut _ _ _ (omega arith)) refl
 
 returns-2 : tie.Need-returns-2
-unfolding readOutcome
+unfolding readOutcome reading
 returns-2 c =
-    let one = c .before .before .before .before .before in
-    rw (first-whole _ _ (one .before .before .section .ensures) (one .if1 .left), c .before .before .before .before .if2 .taken) (c .before .before .paragraph .ensures)
-
-returns-3 : tie.Need-returns-3
-unfolding readOutcome
-returns-3 c =
-    let one = c .before .before .before .before .before .before in
-    rw (first-whole _ _ (one .before .before .section .ensures) (one .if1 .left), c .before .before .before .before .if3 .taken) (c .before .before .index .ensures)
-
-returns-4 : tie.Need-returns-4
-unfolding readOutcome
-returns-4 c =
-    let one = c .before .before in
-    refused _ _ _ _ (first-whole _ _ (one .before .before .section .ensures) (one .if1 .left) ∙ neither _ _ _ (c .before .if2 .left) (c .if3 .left)) refl
+    let count = c .before .before .before .before in
+    let h : 4 ≤ length (now (count .before .before .before .before .args .job)) = omega arith in
+    rw (count-whole, ← count .number .ensures) (c .before .before .limits-from .ensures)
 
 pub read-spec : {M : Type 1} → statement M
-read-spec =
-    tie.close
-    (tie.spec
-    (λ c. search needs)
-    (λ c κs. search needs)
-    returns
-    (λ c. search needs)
-    (λ c κs. search needs)
-    (λ c. search needs)
-    returns-2
-    (λ c κs. search needs)
-    (λ c. search needs)
-    returns-3
-    returns-4)
+read-spec = tie.close (tie.spec returns (λ c κs. search needs) (λ c κs. search needs) (λ c. search needs) returns-2)

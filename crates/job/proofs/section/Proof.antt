@@ -4,7 +4,7 @@ use Prim.Native.Nat.{_-_}
 use native.Mathlib.Omega.{arith}
 use borrow.Author.Needs.{needs}
 use borrow.Author.Tests.{lt-leb}
-use Rattle.job.proofs.Numbers.{Written, written-none, written-more, written-all}
+use Rattle.job.proofs.Sections.{Written, written-none, written-more, written-all}
 use Rattle.job.proofs.section.Statement.{statement}
 use Rattle.job.proofs.section.Tie as tie
 
@@ -31,7 +31,9 @@ slice-write-out c = omega (arith, c .before .before .before .before .before .bef
 
 loop-again : tie.Need-loop-again Inv-loop μ-loop
 loop-again c =
-    written-more (c .number .result) (c .before .before .loop .inv) (c .before .loop-test .taken) (c .before .before .before .before .before .before .pre) (c .number .ensures)
+    let loop = c .before .before in
+    written-more (loop .loop .inv) (c .number .result) (c .before .loop-test .taken) (loop .before .before .before .before .pre)
+    (c .number .ensures)
 
 same-length : tie.Need-same-length Inv-loop μ-loop
 same-length c = c .before .loop .inv .same
@@ -42,17 +44,5 @@ returns-2 c = written-all (c .before .loop .inv) (c .loop-test .left)
 pub section-spec : {M : Type 1} → statement M
 section-spec =
     tie.close
-    (tie.spec
-    Inv-loop
-    μ-loop
-    returns
-    loop-holds
-    mul-number
-    (λ c κs. search needs)
-    mul-out
-    slice-write-out
-    (λ c. search needs)
-    (λ c. search needs)
-    loop-again
-    same-length
-    returns-2)
+    (tie.spec Inv-loop μ-loop returns loop-holds mul-number (λ c κs. search needs) mul-out slice-write-out (λ c. search needs)
+    (λ c. search needs) loop-again same-length returns-2)

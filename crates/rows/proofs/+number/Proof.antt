@@ -2,7 +2,7 @@
 use mathlib.Core.Path.{_∙_}
 use native.Mathlib.Omega.{arith}
 use Rattle.rows.specs.Puts.{puts-length}
-use Rattle.rows.proofs.Turns.{last-fits, last-put, before-fits, then-fits, then-put}
+use Rattle.rows.proofs.Turns.{digit-fits, digit-put, before-fits, then-fits, then-put}
 use Prim.Native.Nat.{ℕ, _<_}
 use borrow.Fn.Kinds.{In}
 use borrow.Fn.PlainCycle.{Measures, is, falls, and}
@@ -26,43 +26,39 @@ number-below t = and 1 number-kinds.ps (falls 1 number-kinds.ps _<_ μ-number t)
 abbrev claims : ℕ → number-lts.Claims
 claims t = (digit-of-reads.Asked, digit-of-reads.Learnt, put-reads.Asked, put-reads.Learnt, number-below t, number.Post)
 
-number-digit-of-requires : (t : ℕ) → number-lts.Need-digit-of-requires (claims t) (number-at t) number.Post
-number-digit-of-requires t c κs = c .before .if1 .taken
-
 number-put-requires : (t : ℕ) → number-lts.Need-put-requires (claims t) (number-at t) number.Post
-number-put-requires t c κs = omega (arith, last-fits (c .before .before .before .before .args .x) (c .before .before .before .before .args .at) (c .before .before .before .before .pre .1) (c .before .before .if1 .taken), c .digit-of .ensures)
-
-number-same-length : (t : ℕ) → number-lts.Need-same-length (claims t) (number-at t) number.Post
-number-same-length t c = puts-length (c .before .before .put .ensures)
+number-put-requires t c κs =
+    let test = c .before .before in
+    digit-fits _ _ (test .if1 .taken) (c .digit-of .ensures) (test .before .before .pre .1)
 
 number-returns : (t : ℕ) → number-lts.Need-returns (claims t) (number-at t) number.Post
-number-returns t c = last-put _ _ (c .before .before .before .before .before .if1 .taken) _ (c .before .before .before .digit-of .ensures) (c .before .before .put .ensures)
+number-returns t c =
+    let digit = c .before .before .before in
+    digit-put _ _ (digit .before .before .if1 .taken) (digit .digit-of .ensures) (c .before .before .put .ensures)
 
 number-number-requires : (t : ℕ) → number-lts.Need-number-requires (claims t) (number-at t) number.Post
-number-number-requires t c κs = (omega (arith, c .before .before .before .pre .0, c .before .if1 .left), before-fits (c .before .before .before .args .x) (c .before .before .before .args .at) (c .before .before .before .pre .1) (c .before .if1 .left))
-
-number-digit-of-requires-2 : (t : ℕ) → number-lts.Need-digit-of-requires-2 (claims t) (number-at t) number.Post
-number-digit-of-requires-2 t c κs = omega arith
+number-number-requires t c κs =
+    let test = c .before in
+    (omega (arith, test .before .before .pre .0, test .if1 .left), before-fits _ _ (test .if1 .left) (test .before .before .pre .1))
 
 number-put-requires-2 : (t : ℕ) → number-lts.Need-put-requires-2 (claims t) (number-at t) number.Post
-number-put-requires-2 t c κs = then-fits (c .before .before .before .before .before .before .before .before .args .x) (c .before .before .before .before .before .before .before .before .args .at) (c .before .before .before .before .before .before .if1 .left) _ (c .digit-of2 .ensures) (c .before .before .before .before .number .ensures) (c .before .before .before .before .before .before .before .before .pre .1)
+number-put-requires-2 t c κs =
+    let front = c .before .before .before .before in
+    let test = front .before .before in
+    then-fits _ _ (test .if1 .left) (c .digit-of2 .ensures) (front .number .ensures) (test .before .before .pre .1)
 
 number-same-length-2 : (t : ℕ) → number-lts.Need-same-length-2 (claims t) (number-at t) number.Post
-number-same-length-2 t c = puts-length (c .before .before .put2 .ensures) ∙ puts-length (c .before .before .before .before .before .before .before .number .ensures)
+number-same-length-2 t c =
+    let put = c .before .before in
+    puts-length (put .put2 .ensures) ∙ puts-length (put .before .before .before .before .before .number .ensures)
 
 number-returns-2 : (t : ℕ) → number-lts.Need-returns-2 (claims t) (number-at t) number.Post
-number-returns-2 t c = then-put (c .before .before .before .before .before .before .before .before .before .before .before .args .x) (c .before .before .before .before .before .before .before .before .before .before .before .args .at) (c .before .before .before .before .before .before .before .before .before .if1 .left) _ (c .before .before .before .digit-of2 .ensures) (c .before .before .before .before .before .before .before .number .ensures) (c .before .before .put2 .ensures)
+number-returns-2 t c =
+    let digit = c .before .before .before in
+    let front = digit .before .before .before .before in
+    then-put _ _ (front .before .before .if1 .left) (digit .digit-of2 .ensures) (front .number .ensures) (c .before .before .put2 .ensures)
 
 pub +number-spec : {M : Type 1} → statement M
-+number-spec = close μ-number λ t. number-lts.spec (claims t)
-    (number-at t)
-    number.Post
-    (number-digit-of-requires t)
-    (number-put-requires t)
-    (number-same-length t)
-    (number-returns t)
-    (number-number-requires t)
-    (number-digit-of-requires-2 t)
-    (number-put-requires-2 t)
-    (number-same-length-2 t)
-    (number-returns-2 t)
++number-spec = close μ-number λ t. number-lts.spec (claims t) (number-at t) number.Post
+    (λ c κs. c .before .if1 .taken) (number-put-requires t) (λ c. puts-length (c .before .before .put .ensures)) (number-returns t)
+    (number-number-requires t) (λ c κs. omega arith) (number-put-requires-2 t) (number-same-length-2 t) (number-returns-2 t)

@@ -1,21 +1,26 @@
 -- `rows::numbered` meets its contract. Assumes nothing.
 use mathlib.Core.Path.{_∙_}
+use native.Mathlib.Omega.{arith}
 use Rattle.rows.specs.Puts.{puts-length}
-use Rattle.rows.proofs.Turns.{first-fits, ended-fits, row-put}
+use Rattle.rows.proofs.Turns.{row-fits, row-put}
 use Rattle.rows.proofs.numbered.Statement.{statement}
 use Rattle.rows.proofs.numbered.Tie as tie
 
 number-requires : tie.Need-number-requires
-number-requires c κs = first-fits _ _ _ (c .before .before .before .pre)
+number-requires c κs = let f = row-fits _ _ (c .before .before .before .pre) in omega arith
 
 end-requires : tie.Need-end-requires
-end-requires c κs = ended-fits _ _ _ (c .before .before .before .number .ensures) (c .before .before .before .before .before .before .before .pre)
+end-requires c κs =
+    let first = c .before .before .before in
+    let f = row-fits _ _ (first .before .before .before .before .pre) in
+    omega (arith, first .number .ensures)
 
 same-length : tie.Need-same-length
-same-length c = puts-length (c .before .before .end .ensures) ∙ puts-length (c .before .before .before .before .before .before .number .ensures)
+same-length c =
+    puts-length (c .before .before .end .ensures) ∙ puts-length (c .before .before .before .before .before .before .number .ensures)
 
 returns : tie.Need-returns
-returns c = row-put _ _ _ (c .before .before .before .before .before .before .number .ensures) (c .before .before .end .ensures)
+returns c = row-put _ _ (c .before .before .before .before .before .before .number .ensures) (c .before .before .end .ensures)
 
 pub numbered-spec : {M : Type 1} → statement M
 numbered-spec = tie.close (tie.spec number-requires end-requires same-length returns)

@@ -1,0 +1,79 @@
+-- A line's length and cost, read from the sums. Assumes nothing but what each law states.
+use Prim.Native.Nat.{ℕ, _+_, _-_, _≤_}
+use mathlib.Core.Path.{_≡_, refl, ap, sym, _∙_}
+use mathlib.Core.Logic.{_⊎_, inl, inr, ⊎-elim}
+use mathlib.Core.Bool.{Bool, true, false, _&&_}
+use mathlib.Core.List.{List}
+use native.Mathlib.Omega.{arith}
+use borrow.Author.Tests.{eq-eqb, ne-eqb, leb-false}
+use lib.Dec.{leb, eqb}
+use lib.ListN.{length, getD}
+use Rattle.paper.specs.declared.Limits.{Limits}
+use Rattle.paper.specs.Paragraph.{end, line, penalty, charge}
+use Rattle.paper_theory.specs.Ranges.{ranges}
+use Rattle.paper_theory.specs.Scale.{upTo, upTo-le, line-is}
+use Rattle.strips.specs.Words.{length-sums, getD-sums}
+use Rattle.lines.specs.Held.{span}
+use Rattle.lines.specs.Asks.{Span, Inside}
+use Rattle.listing.specs.Listing.{holds}
+use Rattle.listing.specs.Asks.{LineAsks, MeasureIs}
+use Rattle.listing.specs.Settings.{line-high, line-low}
+
+not-both : (b c : Bool) → (b ≡ false) ⊎ (c ≡ false) → (b && c) ≡ false
+not-both true c h = ⊎-elim (λ e. let z : _≡_ {A = ℕ} 0 1 = cc in absurd (omega arith)) (λ e. e) h
+not-both false c h = refl
+
+module _ {l : Limits} {ws S : List ℕ} {i j : ℕ} (a : LineAsks l ws S i j) where
+  held : (k : ℕ) → k ≤ length ws → getD S k 0 ≡ upTo ws k
+  held k h = ap (λ (s : List ℕ). getD s k 0) (a .text .sums) ∙ getD-sums ws k h
+
+  strip-length : length S ≡ length ws + 1
+  strip-length = ap length (a .text .sums) ∙ length-sums ws
+
+  pub line-span : Span S i j
+  line-span =
+      let n = strip-length in
+      record {
+        first = a .part .first;
+        order = omega (arith, a .part .order);
+        inside = omega (arith, a .part .within);
+        rising = λ b c bc cs. omega (arith, held b (omega arith), held c (omega arith), upTo-le ws b c bc);
+      }
+
+  span-is : span S i j ≡ line ws i j
+  span-is =
+      let p = a .part in
+      rw (held (j - 1) (omega (arith, p .within)), held (i - 1) (omega (arith, p .within, p .order)))
+      (sym (line-is ws i j (p .first) (omega (arith, p .order))))
+
+  module _ {x y : ℕ} (ex : x ≡ span S i j) (ey : y ≡ x) where
+    length-is : x ≡ line ws i j
+    length-is = ex ∙ span-is
+
+    pub free-is : j ≡ end ws → leb x (l .lopt) ≡ true → MeasureIs l ws i j (record { length = y; cost = 0 })
+    unfolding charge
+    free-is last short = record {
+      length = ey ∙ length-is;
+      cost = rw (← length-is, eq-eqb j (end ws) last, short);
+    }
+
+    -- every other is inside the measure, and costs its penalty
+    module _ (paid : (leb x (l .lopt) ≡ false) ⊎ (j ≡ end ws → ⊥)) where
+      pub paid-inside : Inside l x
+      unfolding holds
+      paid-inside =
+          let n = length-is in
+          let r = ranges l (a .text .passed .limits) in
+          record {
+            ranges = r;
+            low =
+                ⊎-elim (λ h. omega (arith, r .lopt-low, leb-false x (l .lopt) h)) (λ h. omega (arith, line-low (a .part) h)) paid;
+            high = omega (arith, line-high (a .part));
+          }
+
+      pub paid-is : {p : ℕ} → p ≡ penalty l x → MeasureIs l ws i j (record { length = y; cost = p })
+      unfolding charge
+      paid-is e = record {
+        length = ey ∙ length-is;
+        cost = rw (← length-is, not-both (eqb j (end ws)) (leb x (l .lopt)) (⊎-elim inr (λ h. inl (ne-eqb j (end ws) h)) paid)) e;
+      }

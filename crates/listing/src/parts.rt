@@ -1,0 +1,96 @@
+// The rows of a setting's parts: a paragraph's lines, an index's boundaries.
+use job::Asked;
+use lines::line;
+use lines::line_penalty;
+use paper::Limits;
+use rows::numbered;
+use strips::long;
+use strips::wide;
+ghost use mathlib.Core.Path.{_≡_};
+ghost use Prim.Native.Nat.{_+_, _<_};
+ghost use lib.ListN.{length, getD};
+ghost use Rattle.rows.specs.Puts.{Puts};
+ghost use Rattle.listing.specs.Listing.{partRow, partRows};
+ghost use Rattle.listing.specs.Asks.{LineAsks, MeasureIs, PartAsks, PartsAsk};
+
+// A line's length, and what it costs.
+struct Measure {
+    length: u64,
+    cost: u64,
+}
+
+// Of the line from i to j.
+fn measured(l: Limits, lengths: &[u32], sums: &[u32], i: usize, j: usize) -> Measure
+    requires { ⌜ LineAsks l (now lengths) (now sums) i j ⌝ }
+    ensures { λ r. ⌜ MeasureIs l (now (lengths .entry)) i j r ⌝ }
+{
+    let x = line(sums, i, j);
+    if j == lengths.len() + 1 && x <= l.lopt {
+        return Measure {
+            length: long(x),
+            cost: 0,
+        };
+    }
+    Measure {
+        length: long(x),
+        cost: line_penalty(l, x),
+    }
+}
+
+// Puts the row of the part from i to j.
+fn part_row(
+    asked: Asked,
+    lengths: &[u32],
+    sums: &[u32],
+    i: usize,
+    j: usize,
+    out: &mut [u8],
+    at: usize,
+) -> usize
+    requires { ⌜ PartAsks asked (now lengths) (now sums) i j at ⌝ }
+    ensures { λ r. ⌜ Puts (partRow asked (now (lengths .entry)) i j) at (now (out .entry)) r (now (out .exit)) ⌝ }
+{
+    match asked {
+        Asked::Paragraph(l) => {
+            let m = measured(l, lengths, sums, i, j);
+            numbered(out, at, i as u64, &[m.length, m.cost])
+        }
+        Asked::Index(_) => numbered(out, at, i as u64, &[long(lengths[i - 1])]),
+    }
+}
+
+// Where the part after the k-th begins, or the end.
+fn next_part(parts: &[u32], k: usize, end: usize) -> usize
+    requires { ⌜ k < length (now parts) ⌝ }
+    ensures { λ r. ⌜ r ≡ getD (now (parts .entry)) (k + 1) end ⌝ }
+{
+    let next = k + 1;
+    if next < parts.len() {
+        return wide(parts[next]);
+    }
+    end
+}
+
+// Puts the rows of all parts.
+pub fn part_rows(
+    asked: Asked,
+    lengths: &[u32],
+    sums: &[u32],
+    parts: &[u32],
+    out: &mut [u8],
+    at: usize,
+) -> usize
+    requires { ⌜ PartsAsk asked (now lengths) (now sums) (now parts) at ⌝ }
+    ensures { λ r. ⌜ Puts (partRows asked (now (lengths .entry)) (now (parts .entry))) at (now (out .entry)) r (now (out .exit)) ⌝ }
+{
+    let end = lengths.len() + 1;
+    let mut next = at;
+    let mut k = 0;
+    while k < parts.len() {
+        let i = wide(parts[k]);
+        let j = next_part(parts, k, end);
+        next = part_row(asked, lengths, sums, i, j, out, next);
+        k += 1;
+    }
+    next
+}
