@@ -5,19 +5,20 @@ use mathlib.Core.Logic.{_⊎_, inl, inr, ⊎-elim}
 use mathlib.Core.Bool.{Bool, true, false, _&&_}
 use mathlib.Core.List.{List}
 use native.Mathlib.Omega.{arith}
-use borrow.Author.Tests.{eq-eqb, ne-eqb, leb-false}
+use borrow.Author.Tests.{eq-eqb, ne-eqb}
 use lib.Dec.{leb, eqb}
 use lib.ListN.{length, getD}
 use Rattle.paper.specs.declared.Limits.{Limits}
-use Rattle.paper.specs.Paragraph.{end, line, penalty, charge}
-use Rattle.paper_theory.specs.Ranges.{ranges}
+use Rattle.paper.specs.Paragraph.{end, line, penalty}
+use Rattle.paper_theory.specs.Bound.{charge-is}
+use Rattle.paper_theory.specs.Ranges.{Ranges, ranges}
 use Rattle.paper_theory.specs.Scale.{upTo, upTo-le, line-is}
 use Rattle.strips.specs.Words.{length-sums, getD-sums}
 use Rattle.lines.specs.Held.{span}
-use Rattle.lines.specs.Asks.{Span, Inside}
+use Rattle.lines.specs.Asks.{Span}
 use Rattle.listing.specs.Listing.{holds}
-use Rattle.listing.specs.Asks.{LineAsks, MeasureIs}
-use Rattle.listing.specs.Settings.{line-high, line-low}
+use Rattle.listing.specs.Asks.{LineAsks, LineIs}
+use Rattle.listing.specs.Settings.{line-high}
 
 not-both : (b c : Bool) → (b ≡ false) ⊎ (c ≡ false) → (b && c) ≡ false
 not-both true c h = ⊎-elim (λ e. let z : _≡_ {A = ℕ} 0 1 = cc in absurd (omega arith)) (λ e. e) h
@@ -50,30 +51,23 @@ module _ {l : Limits} {ws S : List ℕ} {i j : ℕ} (a : LineAsks l ws S i j) wh
     length-is : x ≡ line ws i j
     length-is = ex ∙ span-is
 
-    pub free-is : j ≡ end ws → leb x (l .lopt) ≡ true → MeasureIs l ws i j (record { length = y; cost = 0 })
-    unfolding charge
+    pub free-is : j ≡ end ws → leb x (l .lopt) ≡ true → LineIs l ws i j (record { length = y; cost = 0 })
     free-is last short = record {
       length = ey ∙ length-is;
-      cost = rw (← length-is, eq-eqb j (end ws) last, short);
+      cost = rw (charge-is l ws i j, ← length-is, eq-eqb j (end ws) last, short);
     }
 
     -- every other is inside the measure, and costs its penalty
     module _ (paid : (leb x (l .lopt) ≡ false) ⊎ (j ≡ end ws → ⊥)) where
-      pub paid-inside : Inside l x
+      pub paid-inside : Ranges l × (x ≤ 16773120)
       unfolding holds
       paid-inside =
           let n = length-is in
           let r = ranges l (a .text .passed .limits) in
-          record {
-            ranges = r;
-            low =
-                ⊎-elim (λ h. omega (arith, r .lopt-low, leb-false x (l .lopt) h)) (λ h. omega (arith, line-low (a .part) h)) paid;
-            high = omega (arith, line-high (a .part));
-          }
+          (r, omega (arith, line-high (a .part), r .lmax-high))
 
-      pub paid-is : {p : ℕ} → p ≡ penalty l x → MeasureIs l ws i j (record { length = y; cost = p })
-      unfolding charge
+      pub paid-is : {p : ℕ} → p ≡ penalty l x → LineIs l ws i j (record { length = y; cost = p })
       paid-is e = record {
         length = ey ∙ length-is;
-        cost = rw (← length-is, not-both (eqb j (end ws)) (leb x (l .lopt)) (⊎-elim inr (λ h. inl (ne-eqb j (end ws) h)) paid)) e;
+        cost = rw (charge-is l ws i j, ← length-is, not-both (eqb j (end ws)) (leb x (l .lopt)) (⊎-elim inr (λ h. inl (ne-eqb j (end ws) h)) paid)) e;
       }

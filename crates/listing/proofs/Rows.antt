@@ -14,9 +14,9 @@ use Rattle.job.specs.declared.Asked.{Asked}
 use Rattle.job.specs.declared.Asked.the-variants.{Paragraph, Index}
 use Rattle.rows.specs.Rows.{digits, row}
 use Rattle.rows.specs.Puts.{Fits, Puts, Along, along-fits, along-more}
-use Rattle.listing.specs.declared.parts.Measure.{Measure}
+use Rattle.listing.specs.declared.parts.LineRow.{LineRow}
 use Rattle.listing.specs.Listing.{headed, values, partRow, partRows}
-use Rattle.listing.specs.Asks.{LineAsks, MeasureIs, PartAsks, PartsAsk}
+use Rattle.listing.specs.Asks.{LineAsks, LineIs, PartAsks, PartsAsk}
 
 -- ---- the rows that stand first
 pub headed-fits : (kind : List ℕ) (n : ℕ) (cost : List ℕ) (total : ℕ) (parts : List ℕ) (count : ℕ) →
@@ -33,7 +33,7 @@ module _ {asked : Asked} {ws S : List ℕ} {i j at : ℕ} (a : PartAsks asked ws
   pub line-asks : {l : Limits} → asked ≡ Paragraph l → LineAsks l ws S i j
   line-asks e = record { text = rw e at (a .text); part = rw e at (a .part) }
 
-  pub line-row : {l : Limits} → asked ≡ Paragraph l → {m : Measure} → MeasureIs l ws i j m →
+  pub line-row : {l : Limits} → asked ≡ Paragraph l → {m : LineRow} → LineIs l ws i j m →
       partRow asked ws i j ≡ row (digits i) (m .length ∷ m .cost ∷ [])
   unfolding values
   line-row e m = rw (e, m .length, m .cost)

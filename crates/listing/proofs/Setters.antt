@@ -48,7 +48,7 @@ module _ (l : Limits) (ws : List ℕ) where
       answered (AskedParagraph l) ws (λ s. s .sums) (λ s. s .breaks) lentParagraph (paragraphHas lentParagraph) (paragraphNeeds (length ws))
       (λ c. paragraphChecked l ws lentParagraph c .answer) (λ c. paragraphChecked l ws lentParagraph c .strips) paragraph-answers
       (λ v e. rw e) (λ v e. rw e) (omega (arith, zeros 4097)) (omega (arith, zeros 4096))
-      (λ h. omega (arith, zeros 4097, zeros 4096, zeros 8192)) (p .answered) (p .strips)
+      (λ h. omega (arith, zeros 4097, zeros 4096, zeros 8192)) (p .tells .is) (p .strips)
 
 -- ---- the index
 abbrev lentIndex : IndexStrips
@@ -73,4 +73,4 @@ module _ (l : PageLimits) (ws : List ℕ) where
       answered (AskedIndex l) ws (λ s. s .sums) (λ s. s .boundaries) lentIndex (indexHas lentIndex) (indexNeeds (length ws))
       (λ c. indexChecked l ws lentIndex c .answer) (λ c. indexChecked l ws lentIndex c .strips) index-answers
       (λ v e. rw e) (λ v e. rw e) (omega (arith, zeros 4097)) (omega (arith, zeros 4096))
-      (λ h. omega (arith, zeros 4097, zeros 4098, zeros 4096, zeros 8192)) (p .answered) (p .strips)
+      (λ h. omega (arith, zeros 4097, zeros 4098, zeros 4096, zeros 8192)) (p .tells .is) (p .strips)

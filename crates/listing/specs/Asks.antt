@@ -15,7 +15,7 @@ use Rattle.paper.specs.Strips.{sums}
 use Rattle.job.specs.declared.Asked.{Asked}
 use Rattle.job.specs.declared.Asked.the-variants.{Paragraph as AskedParagraph, Index as AskedIndex}
 use Rattle.rows.specs.Puts.{Fits}
-use Rattle.listing.specs.declared.parts.Measure.{Measure}
+use Rattle.listing.specs.declared.parts.LineRow.{LineRow}
 use Rattle.listing.specs.Listing.{refused, refusal, holds, head, partRow, partRows, movesRow, setRows, askedListing}
 
 -- ---- parts of a setting
@@ -39,7 +39,7 @@ pub record LineAsks (l : Limits) (ws S : List ℕ) (i j : ℕ) : Type 0 where
   pub text : Summed (AskedParagraph l) ws S
   pub part : Part (AskedParagraph l) ws i j
 
-pub record MeasureIs (l : Limits) (ws : List ℕ) (i j : ℕ) (m : Measure) : Type 0 where
+pub record LineIs (l : Limits) (ws : List ℕ) (i j : ℕ) (m : LineRow) : Type 0 where
   pub length : m .length ≡ line ws i j
   pub cost : m .cost ≡ charge l ws i j
 

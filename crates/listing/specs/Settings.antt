@@ -5,21 +5,21 @@ use mathlib.Core.Path.{_≡_, refl}
 use mathlib.Core.Bool.{Bool, true, false, _&&_}
 use mathlib.Core.List.{List, [], _∷_}
 use native.Mathlib.Omega.{arith}
-use borrow.Author.Tests.{ne-eqb}
-use lib.Dec.{T, leb, eqb, leb→le}
+use lib.Dec.{leb, eqb}
 use lib.ListN.{length, getD}
-use Rattle.laws.specs.Number.{if, both}
+use Rattle.laws.specs.Number.{if}
 use Rattle.laws.specs.Cost.{some}
 use Rattle.laws.specs.Setting.{Problem, Choice, Admissible}
 use Rattle.paper.specs.declared.Limits.{Limits}
 use Rattle.paper.specs.Allowed.{Passed}
-use Rattle.paper.specs.Paragraph.{end, line, admissible, penalty, charge, paragraph}
+use Rattle.paper.specs.Lines.{settings}
+use Rattle.paper.specs.Paragraph.{end, line, penalty, charge, lines, paragraph}
 use Rattle.paper.specs.Index.{item, index, boundaries}
 use Rattle.paper_theory.specs.Ranges.{Ranges, ranges}
 use Rattle.paper_theory.specs.Scale.{length-holds}
-use Rattle.paper_theory.specs.Bound.{penalty-bound, paragraph-bound, index-bound}
-use Rattle.paper_theory.specs.Right.{paragraph-right, index-right}
-use Rattle.queue_theory.specs.Count.{at-most-2n}
+use Rattle.paper_theory.specs.Bound.{admissible-lmax, admissible-lmin, charge-is, penalty-bound, paragraph-bound, index-bound}
+use Rattle.paper_theory.specs.Cheapest.{paragraph-cheapest, index-cheapest}
+use Rattle.queue_theory.specs.Paragraph.{at-most-2n}
 use Rattle.pointer_theory.specs.Count.{pointer-count}
 use Rattle.job.specs.declared.Asked.{Asked}
 use Rattle.job.specs.declared.Asked.the-variants.{Paragraph as AskedParagraph, Index as AskedIndex}
@@ -32,23 +32,15 @@ use Rattle.listing.specs.Asks.{problem, Part, Parts}
 -- ---- a line of a paragraph
 module _ {l : Limits} {ws : List ℕ} {i j : ℕ} (p : Part (AskedParagraph l) ws i j) where
   pub line-high : line ws i j ≤ l .lmax
-  unfolding problem paragraph admissible
-  line-high = go (eqb j (end ws)) (p .fits)
-    where
-      go : (b : Bool) → T (if b (leb (line ws i j) (l .lmax)) (leb (l .lmin) (line ws i j) && leb (line ws i j) (l .lmax))) →
-          line ws i j ≤ l .lmax
-      go true t = leb→le (line ws i j) (l .lmax) t
-      go false t = leb→le (line ws i j) (l .lmax) (both (leb (l .lmin) (line ws i j)) (leb (line ws i j) (l .lmax)) t .1)
+  unfolding problem paragraph settings lines
+  line-high = admissible-lmax (lines l ws) i j (p .fits)
 
   pub line-low : (j ≡ end ws → ⊥) → l .lmin ≤ line ws i j
-  unfolding problem paragraph admissible
-  line-low h =
-      let t = rw (ne-eqb j (end ws) h) at (p .fits) in
-      leb→le (l .lmin) (line ws i j) (both (leb (l .lmin) (line ws i j)) (leb (line ws i j) (l .lmax)) t .0)
+  unfolding problem paragraph settings lines
+  line-low h = admissible-lmin (lines l ws) i j (p .fits) h
 
   charge-small : Ranges l → charge l ws i j < 2 ^ 28
-  unfolding charge
-  charge-small r = go (eqb j (end ws) && leb (line ws i j) (l .lopt))
+  charge-small r = rw (charge-is l ws i j) (go (eqb j (end ws) && leb (line ws i j) (l .lopt)))
     where
       go : (b : Bool) → if b 0 (penalty l (line ws i j)) < 2 ^ 28
       go true = omega arith
@@ -116,10 +108,10 @@ pub record SetIs (asked : Asked) (ws is : List ℕ) (total : ℕ) : Type 0 where
 
 pub set-is : (asked : Asked) (ws : List ℕ) → Passed (holds asked) ws → (total : ℕ) → least asked ws ≡ some total →
     SetIs asked ws (parts asked ws) total
-unfolding holds least parts moved problem paragraph index
+unfolding holds least parts moved problem paragraph settings lines index
 set-is (AskedParagraph l) ws passed total e =
     let r = ranges l (passed .limits) in
-    let right = paragraph-right l ws (r .lopt-high) (passed .words) total e in
+    let right = paragraph-cheapest l ws (r .lopt-high) (passed .words) total e in
     let js = right .0 in
     let h = right .3 .admissible in
     rw (right .1)
@@ -130,7 +122,7 @@ set-is (AskedParagraph l) ws passed total e =
       moves = at-most-2n l ws passed;
     })
 set-is (AskedIndex l) ws passed total e =
-    let h = index-right l ws total e .1 .admissible in
+    let h = index-cheapest l ws total e .1 .admissible in
     record {
       all = record { each = λ k g. part-at (AskedIndex l) ws refl 0 (boundaries l ws) h (suc k) (omega arith) (omega arith) };
       few = omega (arith, last-within (AskedIndex l) ws refl 0 (boundaries l ws) h);

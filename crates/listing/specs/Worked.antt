@@ -2,15 +2,9 @@
 use Prim.Native.Nat.{ℕ}
 use mathlib.Core.Path.{_≡_, refl}
 use mathlib.Core.List.{List, [], _∷_, _++_, map}
-use Rattle.laws.specs.Square.{sqd}
-use Rattle.laws.specs.Table as Table
-use Rattle.laws.specs.Chosen.{next}
+use Rattle.paper.specs.Computes.{paragraphComputes, indexComputes}
 use Rattle.paper.specs.Paragraph as Paragraph
-use Rattle.paper.specs.Index as Index
-use Rattle.paper.specs.Allowed.{lengthHolds, limitsHold, pageLimitsHold}
-use Rattle.paper.specs.Told.{toldRefusal, checked, firstFailing, firstShort}
-use Rattle.paper.specs.QueueRules as Queue
-use Rattle.paper.specs.PointerRules as Pointer
+use Rattle.paper.specs.Told.{toldRefusal}
 use Rattle.job.specs.Jobs as Jobs
 use Rattle.job.specs.Jobs.{bytes, P1, G1}
 use Rattle.rows.specs.Rows.{ascii, digitsIn, digits, ended, row}
@@ -19,14 +13,7 @@ use Rattle.listing.specs.Listing.{costListing, checkedListing, askedList
 
 -- the listing, with all that it rests on open
 unfoldable worked : List ℕ → List ℕ
-unfolding Jobs.worked checked firstFailing firstShort lengthHolds limitsHold pageLimitsHold toldRefusal sqd Table.best next
-    Paragraph.sum Paragraph.line Paragraph.admissible Paragraph.penalty Paragraph.charge Paragraph.paragraph
-    Paragraph.best Paragraph.chosenNext Paragraph.breaks
-    Queue.textOf Queue.F Queue.edge Queue.chord Queue.dropLong Queue.popWorse Queue.popBridged Queue.add Queue.consider Queue.candidates
-    Queue.dropWorse Queue.settled Queue.atStart Queue.afterStarts Queue.queueMoves
-    Index.gap Index.page Index.item Index.index Index.best Index.chosenNext Index.boundaries
-    Pointer.pagesOf Pointer.steps Pointer.jumps Pointer.links Pointer.pointed Pointer.linked Pointer.atStart Pointer.afterStarts
-    Pointer.pointerMoves
+unfolding Jobs.worked paragraphComputes indexComputes Paragraph.charge toldRefusal
     digitsIn digits ended row refused refusal holds least parts moved head values partRows
     costListing checkedListing askedListing listed listingOf
 worked = listingOf

@@ -1,7 +1,7 @@
 // The rows of a setting's parts: a paragraph's lines, an index's boundaries.
 use job::Asked;
 use lines::line;
-use lines::line_penalty;
+use lines::penalty;
 use paper::Limits;
 use rows::numbered;
 use strips::long;
@@ -11,29 +11,29 @@ ghost use Prim.Native.Nat.{_+_, _<_};
 ghost use lib.ListN.{length, getD};
 ghost use Rattle.rows.specs.Puts.{Puts};
 ghost use Rattle.listing.specs.Listing.{partRow, partRows};
-ghost use Rattle.listing.specs.Asks.{LineAsks, MeasureIs, PartAsks, PartsAsk};
+ghost use Rattle.listing.specs.Asks.{LineAsks, LineIs, PartAsks, PartsAsk};
 
 // A line's length, and what it costs.
-struct Measure {
+struct LineRow {
     length: u64,
     cost: u64,
 }
 
 // Of the line from i to j.
-fn measured(l: Limits, lengths: &[u32], sums: &[u32], i: usize, j: usize) -> Measure
+fn measured(l: Limits, lengths: &[u32], sums: &[u32], i: usize, j: usize) -> LineRow
     requires { ⌜ LineAsks l (now lengths) (now sums) i j ⌝ }
-    ensures { λ r. ⌜ MeasureIs l (now (lengths .entry)) i j r ⌝ }
+    ensures { λ r. ⌜ LineIs l (now (lengths .entry)) i j r ⌝ }
 {
     let x = line(sums, i, j);
     if j == lengths.len() + 1 && x <= l.lopt {
-        return Measure {
+        return LineRow {
             length: long(x),
             cost: 0,
         };
     }
-    Measure {
+    LineRow {
         length: long(x),
-        cost: line_penalty(l, x),
+        cost: penalty(l, x),
     }
 }
 

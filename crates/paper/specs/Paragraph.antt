@@ -42,6 +42,10 @@ lines l ws = record {
 unfoldable pub paragraph : Limits → List ℕ → Problem
 paragraph l ws = settings (lines l ws)
 
+-- what a line costs
+unfoldable pub charge : Limits → List ℕ → ℕ → ℕ → ℕ
+charge l ws i j = Lines.charge (lines l ws) i j
+
 unfoldable pub best : Limits → List ℕ → ℕ → Cost
 best l ws i = Lines.best (lines l ws) i
 

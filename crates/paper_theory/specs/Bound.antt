@@ -6,6 +6,7 @@ use mathlib.Core.Logic.{⊎-elim}
 use mathlib.Core.List.{List, _∷_}
 use native.Mathlib.Nat.{mul-le-mul, mul-le-mul-right}
 use native.Mathlib.Omega.{arith}
+use borrow.Author.Tests.{ne-eqb}
 use lib.Dec.{T, leb, eqb, leb→le}
 use lib.ListN.{length, getD, List·getD-eq-default}
 use Rattle.laws.specs.Number.{if, both, all, split}
@@ -17,7 +18,7 @@ use Rattle.paper.specs.declared.PageLimits.{PageLimits}
 use Rattle.paper.specs.Paragraph as Paragraph
 use Rattle.paper.specs.Lines as Lines
 use Rattle.paper.specs.Lines.{Lines, admissible, charge, settings}
-use Rattle.paper.specs.Paragraph.{end, penalty, lines}
+use Rattle.paper.specs.Paragraph.{line, end, penalty, lines}
 use Rattle.paper.specs.Index as Index
 use Rattle.paper.specs.Index.{item, index}
 use Rattle.paper.specs.Allowed.{lengthHolds}
@@ -43,20 +44,28 @@ penalty-bound l r x h =
     rw e (omega (arith, square-bound (l .a) (x - l .lopt) (r .a-high) (omega (arith, r .lmax-high, r .lopt-low, r .lmin-low)))))
     (split x (l .lopt))
 
--- ---- over what a paragraph's lines are: a line within lmax costs at most C, with what its break is charged
-module _ (p : Lines) (C : ℕ) (each : (x : ℕ) → x ≤ p .lmax → (j : ℕ) → p .penalty x + p .break j ≤ C) where
+-- ---- over what a paragraph's lines are
+module _ (p : Lines) (i j : ℕ) (t : T (admissible p i j)) where
+  abbrev within : ℕ → Bool
+  within least = leb least (p .line i j) && leb (p .line i j) (p .lmax)
+
   -- every admissible line is at most lmax
-  pub admissible-lmax : (i j : ℕ) → T (admissible p i j) → p .line i j ≤ p .lmax
+  pub admissible-lmax : p .line i j ≤ p .lmax
   unfolding admissible
-  admissible-lmax i j t = go (eqb j (p .end)) t
+  admissible-lmax = go (eqb j (p .end)) t
     where
-      go : (b : Bool) →
-          T (if b (leb (p .lastmin) (p .line i j) && leb (p .line i j) (p .lmax))
-          (leb (p .lmin) (p .line i j) && leb (p .line i j) (p .lmax))) →
-          p .line i j ≤ p .lmax
+      go : (b : Bool) → T (if b (within (p .lastmin)) (within (p .lmin))) → p .line i j ≤ p .lmax
       go true t = leb→le (p .line i j) (p .lmax) (both (leb (p .lastmin) (p .line i j)) (leb (p .line i j) (p .lmax)) t .1)
       go false t = leb→le (p .line i j) (p .lmax) (both (leb (p .lmin) (p .line i j)) (leb (p .line i j) (p .lmax)) t .1)
 
+  -- and every one but the last at least lmin
+  pub admissible-lmin : (j ≡ p .end → ⊥) → p .lmin ≤ p .line i j
+  unfolding admissible
+  admissible-lmin h =
+      leb→le (p .lmin) (p .line i j) (both (leb (p .lmin) (p .line i j)) (leb (p .line i j) (p .lmax)) (rw (ne-eqb j (p .end) h) at t) .0)
+
+-- a line within lmax costs at most C, with what its break is charged
+module _ (p : Lines) (C : ℕ) (each : (x : ℕ) → x ≤ p .lmax → (j : ℕ) → p .penalty x + p .break j ≤ C) where
   charge-bound : (i j : ℕ) → p .line i j ≤ p .lmax → charge p i j ≤ C
   unfolding charge
   charge-bound i j h = go (eqb j (p .end) && leb (p .line i j) (p .lopt))
@@ -68,8 +77,18 @@ module _ (p : Lines) (C : ℕ) (each : (x : ℕ) → x ≤ p .lmax → (j : ℕ)
   pub lines-bound : (i v : ℕ) → i ≤ p .end → Lines.best p i ≡ some v → v ≤ (p .end - i) * C
   unfolding settings
   lines-bound i v high e =
-      best-bound (settings p) C (λ j k ch. charge-bound j k (admissible-lmax j k (ch .admissible))) (λ c n. omega arith) refl i v high
+      best-bound (settings p) C (λ j k ch. charge-bound j k (admissible-lmax p j k (ch .admissible))) (λ c n. omega arith) refl i v high
       (subst (Best (settings p) i) e (best-lines p i high))
+
+-- what a line of 01's paragraph costs
+pub charge-is : (l : Limits) (ws : List ℕ) (i j : ℕ) →
+    Paragraph.charge l ws i j ≡ if (eqb j (end ws) && leb (line ws i j) (l .lopt)) 0 (penalty l (line ws i j))
+unfolding Paragraph.charge charge lines
+charge-is l ws i j = go (eqb j (end ws) && leb (line ws i j) (l .lopt))
+  where
+    go : (b : Bool) → if b 0 (penalty l (line ws i j) + 0) ≡ if b 0 (penalty l (line ws i j))
+    go true = refl
+    go false = omega arith
 
 pub paragraph-bound : (l : Limits) → Ranges l → (ws : List ℕ) → length ws ≤ 4096 → (i v : ℕ) → 1 ≤ i → i ≤ end ws →
     Paragraph.best l ws i ≡ some v → v < 2 ^ 40

@@ -14,8 +14,8 @@ returns c =
     let line = test .before in
     free-is (line .before .before .before .pre) (line .line .ensures) (c .long .ensures) (test .if1 .taken) (c .before .if2 .taken)
 
-line-penalty-requires : tie.Need-line-penalty-requires
-line-penalty-requires c κs =
+penalty-requires : tie.Need-penalty-requires
+penalty-requires c κs =
     let line = c .before .before in
     paid-inside (line .before .before .before .pre) (line .line .ensures) (c .long2 .ensures)
     (⊎-elim (λ w. inl (w .2 .left)) (λ w. inr (w .left)) (c .before .if1 .came))
@@ -24,9 +24,9 @@ returns-2 : tie.Need-returns-2
 returns-2 c =
     let test = c .before .before in
     paid-is (test .before .before .before .before .pre) (test .before .line .ensures) (c .before .long2 .ensures)
-    (⊎-elim (λ w. inl (w .2 .left)) (λ w. inr (w .left)) (test .if1 .came)) (c .line-penalty .ensures .0)
+    (⊎-elim (λ w. inl (w .2 .left)) (λ w. inr (w .left)) (test .if1 .came)) (c .penalty .ensures)
 
 pub measured-spec : {M : Type 1} → statement M
 measured-spec =
     tie.close
-    (tie.spec line-requires (λ c. search needs) (λ c κs. search needs) returns (λ c κs. search needs) line-penalty-requires returns-2)
+    (tie.spec line-requires (λ c. search needs) (λ c κs. search needs) returns (λ c κs. search needs) penalty-requires returns-2)
