@@ -34,15 +34,15 @@ module _ {l : Limits} {ws S : List ℕ} {i j : ℕ} (a : LineAsks l ws S i j) wh
   line-span =
       let n = strip-length in
       record {
-        first = a .part .first;
-        order = omega (arith, a .part .order);
-        inside = omega (arith, a .part .within);
+        first = a .segment .first;
+        order = omega (arith, a .segment .order);
+        inside = omega (arith, a .segment .within);
         rising = λ b c bc cs. omega (arith, held b (omega arith), held c (omega arith), upTo-le ws b c bc);
       }
 
   span-is : span S i j ≡ line ws i j
   span-is =
-      let p = a .part in
+      let p = a .segment in
       rw (held (j - 1) (omega (arith, p .within)), held (i - 1) (omega (arith, p .within, p .order)))
       (sym (line-is ws i j (p .first) (omega (arith, p .order))))
 
@@ -67,8 +67,8 @@ module _ {l : Limits} {ws S : List ℕ} {i j : ℕ} (a : LineAsks l ws S i j) wh
           record {
             ranges = r;
             low =
-                ⊎-elim (λ h. omega (arith, r .lopt-low, leb-false x (l .lopt) h)) (λ h. omega (arith, line-low (a .part) h)) paid;
-            high = omega (arith, line-high (a .part));
+                ⊎-elim (λ h. omega (arith, r .lopt-low, leb-false x (l .lopt) h)) (λ h. omega (arith, line-low (a .segment) h)) paid;
+            high = omega (arith, line-high (a .segment));
           }
 
       pub paid-is : {p : ℕ} → p ≡ penalty l x → MeasureIs l ws i j (record { length = y; cost = p })

@@ -14,7 +14,7 @@ use Rattle.paper.specs.PointerRules as Pointer
 use Rattle.job.specs.Jobs as Jobs
 use Rattle.job.specs.Jobs.{bytes, P1, G1}
 use Rattle.rows.specs.Rows.{ascii, digitsIn, digits, ended, row}
-use Rattle.listing.specs.Listing.{refused, refusal, holds, least, parts, moved, head, values, partRows}
+use Rattle.listing.specs.Listing.{refused, refusal, holds, least, starts, moved, head, values, startRows}
 use Rattle.listing.specs.Listing.{costListing, checkedListing, askedListing, listed, listingOf}
 
 -- the listing, with all that it rests on open
@@ -27,7 +27,7 @@ unfolding Jobs.worked checked firstFailing firstShort lengthHolds limitsHold pag
     Index.gap Index.page Index.item Index.index Index.best Index.chosenNext Index.boundaries
     Pointer.pagesOf Pointer.steps Pointer.jumps Pointer.links Pointer.pointed Pointer.linked Pointer.atStart Pointer.afterStarts
     Pointer.pointerMoves
-    digitsIn digits ended row refused refusal holds least parts moved head values partRows
+    digitsIn digits ended row refused refusal holds least starts moved head values startRows
     costListing checkedListing askedListing listed listingOf
 worked = listingOf
 
