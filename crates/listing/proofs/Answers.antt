@@ -31,7 +31,7 @@ use Rattle.job.specs.declared.Job.the-variants.{Read, Refused as JobRefused}
 use Rattle.job.specs.Reader as Reader
 use Rattle.job.specs.Reader.{Reading, refuse, accept, reading, readOutcome}
 use Rattle.job.specs.Promise.{accepted-writes}
-use Rattle.listing.specs.Listing.{refused, refusal, holds, least, parts, moved}
+use Rattle.listing.specs.Listing.{refused, refusal, holds, least, starts, moved}
 use Rattle.listing.specs.Listing.{costListing, checkedListing, askedListing, listed, listingOf}
 use Rattle.listing.specs.Asks.{IsSet, Answered}
 use Rattle.listing.specs.Settings.{set-is}
@@ -87,63 +87,55 @@ roomy k [] ns r = refl
 roomy k (h ∷ hs) [] r = refl
 roomy k (h ∷ hs) (n ∷ ns) r = when-true (leb n h) _ _ (le-leb n h (r .0)) ∙ roomy (suc k) hs ns (r .1)
 
--- the answer, from what is asked alone
-abbrev pub costAnswer : Asked → List ℕ → Cost → Answer
-costAnswer asked ws none = None (moved asked ws)
-costAnswer asked ws (some v) = Set v (length (parts asked ws)) (moved asked ws)
-
-abbrev pub checkedAnswer : Asked → List ℕ → Cost → Checked → Answer
-checkedAnswer asked ws b (Refuse r) = Refused r
-checkedAnswer asked ws b Accept = costAnswer asked ws b
-
 -- the sums and the answer strip, before and after a setting
-module _ (asked : Asked) (ws s p S P : List ℕ) (sums-room : mostWords + 1 ≤ length s) (parts-room : mostWords ≤ length p) where
-  set : (v : ℕ) → checked (holds asked) ws [] [] ≡ Accept → least asked ws ≡ some v → S ≡ over (sums ws) s → P ≡ over (parts asked ws) p →
-      IsSet asked ws S P v (length (parts asked ws)) (moved asked ws)
+module _ (asked : Asked) (ws s p S P : List ℕ) (sums-room : mostWords + 1 ≤ length s) (starts-room : mostWords ≤ length p) where
+  set : (v : ℕ) → checked (holds asked) ws [] [] ≡ Accept → least asked ws ≡ some v → S ≡ over (sums ws) s → P ≡ over (starts asked ws) p →
+      IsSet asked ws S P v (length (starts asked ws)) (moved asked ws)
   unfolding askedListing checkedListing costListing
-  set v pass cost sums-over parts-over =
+  set v pass cost sums-over starts-over =
       let passed = accepted (holds asked) ws [] [] pass .passed in
       let is = set-is asked ws passed v cost in
       let n = length-sums ws in
       let sums-are = front-is (sums ws) s S (length ws + 1) sums-over n in
-      let parts-are = front-is (parts asked ws) p P (length (parts asked ws)) parts-over refl in
+      let starts-are = front-is (starts asked ws) p P (length (starts asked ws)) starts-over refl in
       record {
         sums-room = omega (arith, ap length sums-over, length-over (sums ws) s (omega (arith, passed .few)), passed .few);
-        parts-room = omega (arith, ap length parts-over, length-over (parts asked ws) p (omega (arith, passed .few, is .few)));
+        starts-room = omega (arith, ap length starts-over, length-over (starts asked ws) p (omega (arith, passed .few, is .few)));
         asks =
-            rw (sums-are, parts-are)
+            rw (sums-are, starts-are)
             (record {
               text = record { passed = passed; sums = refl };
-              parts = is .all;
+              starts = is .all;
               room = record { fits = omega (arith, set-size asked ws passed v is) };
             });
-        listing = rw (parts-are, pass, cost);
+        listing = rw (starts-are, pass, cost);
       }
 
--- What a setter promises: the answer and the strips, which the checks decide. Its strips are of any type, with the sums and the answer
--- strip among them.
-module _ {Strips : Type 0} (asked : Asked) (ws : List ℕ) (sumsOf partsOf : Strips → List ℕ) (lent : Strips) (has needs : List ℕ)
-    (answer : Checked → Answer) (strips : Checked → Strips)
-    (answers : (c : Checked) → answer c ≡ checkedAnswer asked ws (least asked ws) c)
+-- What a setter promises: an answer and strips, as the checks and the least total decide. The strips are of any type, with the sums and the
+-- answer strip among them.
+module _ {Strips : Type 0} (asked : Asked) (ws : List ℕ) (sumsOf startsOf : Strips → List ℕ) (lent : Strips) (has needs : List ℕ)
+    (answer : Checked → Answer) (strips : Checked → Strips) (costAnswer : Cost → Answer)
+    (refuses : (r : Refusal) → answer (Refuse r) ≡ Refused r) (accepts : answer Accept ≡ costAnswer (least asked ws))
+    (none-is : costAnswer none ≡ None (moved asked ws))
+    (some-is : (v : ℕ) → costAnswer (some v) ≡ Set v (length (starts asked ws)) (moved asked ws))
     (sums-over : (v : ℕ) → least asked ws ≡ some v → sumsOf (strips Accept) ≡ over (sums ws) (sumsOf lent))
-    (parts-over : (v : ℕ) → least asked ws ≡ some v → partsOf (strips Accept) ≡ over (parts asked ws) (partsOf lent))
-    (sums-room : mostWords + 1 ≤ length (sumsOf lent)) (parts-room : mostWords ≤ length (partsOf lent))
+    (starts-over : (v : ℕ) → least asked ws ≡ some v → startsOf (strips Accept) ≡ over (starts asked ws) (startsOf lent))
+    (sums-room : mostWords + 1 ≤ length (sumsOf lent)) (starts-room : mostWords ≤ length (startsOf lent))
     (room : length ws ≤ mostWords → Roomy has needs) where
+  at-cost : checked (holds asked) ws [] [] ≡ Accept → (b : Cost) → least asked ws ≡ b →
+      Answered asked ws (sumsOf (strips Accept)) (startsOf (strips Accept)) (costAnswer b)
+  unfolding askedListing checkedListing costListing
+  at-cost g none h = rw (none-is, g, h)
+  at-cost g (some v) h = rw (some-is v) (set asked ws _ _ _ _ sums-room starts-room v g h (sums-over v h) (starts-over v h))
+
+  at-checked : (c : Checked) → checked (holds asked) ws [] [] ≡ c → Answered asked ws (sumsOf (strips c)) (startsOf (strips c)) (answer c)
+  unfolding askedListing checkedListing
+  at-checked (Refuse r) g = rw (refuses r, g)
+  at-checked Accept g = rw accepts (at-cost g (least asked ws) refl)
+
   pub answered : {a : Answer} {t : Strips} →
       a ≡ answer (checked (holds asked) ws has needs) → t ≡ strips (checked (holds asked) ws has needs) →
-      Answered asked ws (sumsOf t) (partsOf t) a
-  unfolding askedListing checkedListing costListing
-  answered {a} {t} e f =
+      Answered asked ws (sumsOf t) (startsOf t) a
+  answered e f =
       let long = all-long (holds asked) ws has needs (λ h. roomy 1 has needs (room h)) in
-      let c = checked (holds asked) ws [] [] in
-      rw (e ∙ ap answer long ∙ answers c, f ∙ ap strips long) (at-checked c refl)
-    where
-      at-cost : checked (holds asked) ws [] [] ≡ Accept → (b : Cost) → least asked ws ≡ b →
-          Answered asked ws (sumsOf (strips Accept)) (partsOf (strips Accept)) (costAnswer asked ws b)
-      at-cost g none h = rw (g, h)
-      at-cost g (some v) h = set asked ws _ _ _ _ sums-room parts-room v g h (sums-over v h) (parts-over v h)
-
-      at-checked : (c : Checked) → checked (holds asked) ws [] [] ≡ c →
-          Answered asked ws (sumsOf (strips c)) (partsOf (strips c)) (checkedAnswer asked ws (least asked ws) c)
-      at-checked (Refuse r) g = rw g
-      at-checked Accept g = at-cost g (least asked ws) refl
+      rw (e ∙ ap answer long, f ∙ ap strips long) (at-checked (checked (holds asked) ws [] []) refl)

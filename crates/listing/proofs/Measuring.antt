@@ -35,15 +35,15 @@ module _ {l : Limits} {ws S : List ℕ} {i j : ℕ} (a : LineAsks l ws S i j) wh
   line-span =
       let n = strip-length in
       record {
-        first = a .part .first;
-        order = omega (arith, a .part .order);
-        inside = omega (arith, a .part .within);
+        first = a .segment .first;
+        order = omega (arith, a .segment .order);
+        inside = omega (arith, a .segment .within);
         rising = λ b c bc cs. omega (arith, held b (omega arith), held c (omega arith), upTo-le ws b c bc);
       }
 
   span-is : span S i j ≡ line ws i j
   span-is =
-      let p = a .part in
+      let p = a .segment in
       rw (held (j - 1) (omega (arith, p .within)), held (i - 1) (omega (arith, p .within, p .order)))
       (sym (line-is ws i j (p .first) (omega (arith, p .order))))
 

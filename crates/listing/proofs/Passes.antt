@@ -7,13 +7,11 @@ use native.Mathlib.Omega.{arith}
 use borrow.Author.Tests.{le-leb, lt-leb}
 use lib.ListN.{length}
 use Rattle.laws.specs.Outcome.{Promise, Is}
-use Rattle.rows.specs.Rows.{ascii}
-use Rattle.rows.specs.Digits.{digits-width}
-use Rattle.rows.specs.Size.{row-two}
 use Rattle.rows.specs.Puts.{Fits, Puts, puts-counted, puts-over}
 use Rattle.listing.specs.declared.Listed.the-variants.{Written, Short}
 use Rattle.listing.specs.Listing.{refused}
 use Rattle.listing.specs.Promise.{outcome}
+use Rattle.listing.specs.Size.{refused-size}
 
 module _ {bytes : List ℕ} {size : ℕ} {t : List ℕ} (s : List ℕ) (counted : Puts bytes 0 [] size t) where
   back : t ++ s ≡ s
@@ -34,11 +32,4 @@ module _ {bytes : List ℕ} {size : ℕ} {t : List ℕ} (s : List ℕ) (counted 
       rw (le-leb (length bytes) (length s) room, e) (record { tells = refl; strips = puts-over (rw back at p) room })
 
 pub refused-fits : (number place : ℕ) → number < 2 ^ 64 → place < 2 ^ 64 → Fits 0 (refused number place ∷ [])
-unfolding refused
-refused-fits number place h g =
-    omega (
-      arith,
-      row-two (ascii "refused") number place,
-      digits-width 20 number (omega arith) (omega arith),
-      digits-width 20 place (omega arith) (omega arith),
-    )
+refused-fits number place h g = omega (arith, refused-size 20 20 number place (omega arith) (omega arith) (omega arith) (omega arith))

@@ -15,10 +15,10 @@ use Rattle.paper.specs.Strips.{sums}
 use Rattle.job.specs.declared.Asked.{Asked}
 use Rattle.job.specs.declared.Asked.the-variants.{Paragraph as AskedParagraph, Index as AskedIndex}
 use Rattle.rows.specs.Puts.{Fits}
-use Rattle.listing.specs.declared.parts.LineRow.{LineRow}
-use Rattle.listing.specs.Listing.{refused, refusal, holds, head, partRow, partRows, movesRow, setRows, askedListing}
+use Rattle.listing.specs.declared.starts.LineRow.{LineRow}
+use Rattle.listing.specs.Listing.{refused, refusal, holds, head, startRow, startRows, movesRow, setRows, askedListing}
 
--- ---- parts of a setting
+-- ---- starts of a setting
 -- a text that refusals 1 to 4 pass, with its sums
 pub record Summed (asked : Asked) (ws S : List ℕ) : Type 0 where
   pub passed : Passed (holds asked) ws
@@ -29,7 +29,7 @@ problem (AskedParagraph l) ws = paragraph l ws
 problem (AskedIndex l) ws = index l ws
 
 -- from i up to j
-pub record Part (asked : Asked) (ws : List ℕ) (i j : ℕ) : Type 0 where
+pub record Segment (asked : Asked) (ws : List ℕ) (i j : ℕ) : Type 0 where
   pub first : 1 ≤ i
   pub order : i < j
   pub within : j ≤ end ws
@@ -37,37 +37,37 @@ pub record Part (asked : Asked) (ws : List ℕ) (i j : ℕ) : Type 0 where
 
 pub record LineAsks (l : Limits) (ws S : List ℕ) (i j : ℕ) : Type 0 where
   pub text : Summed (AskedParagraph l) ws S
-  pub part : Part (AskedParagraph l) ws i j
+  pub segment : Segment (AskedParagraph l) ws i j
 
 pub record LineIs (l : Limits) (ws : List ℕ) (i j : ℕ) (m : LineRow) : Type 0 where
   pub length : m .length ≡ line ws i j
   pub cost : m .cost ≡ charge l ws i j
 
-pub record PartAsks (asked : Asked) (ws S : List ℕ) (i j at : ℕ) : Type 0 where
+pub record SegmentAsks (asked : Asked) (ws S : List ℕ) (i j at : ℕ) : Type 0 where
   pub text : Summed asked ws S
-  pub part : Part asked ws i j
-  pub room : Fits at (partRow asked ws i j ∷ [])
+  pub segment : Segment asked ws i j
+  pub room : Fits at (startRow asked ws i j ∷ [])
 
 -- each goes up to the next, the last one to the end
-pub record Parts (asked : Asked) (ws is : List ℕ) : Type 0 where
-  pub each : (k : ℕ) → k < length is → Part asked ws (getD is k 0) (getD is (suc k) (end ws))
+pub record Segments (asked : Asked) (ws is : List ℕ) : Type 0 where
+  pub each : (k : ℕ) → k < length is → Segment asked ws (getD is k 0) (getD is (suc k) (end ws))
 
-pub record PartsAsk (asked : Asked) (ws S is : List ℕ) (at : ℕ) : Type 0 where
+pub record SegmentsAsk (asked : Asked) (ws S is : List ℕ) (at : ℕ) : Type 0 where
   pub text : Summed asked ws S
-  pub parts : Parts asked ws is
-  pub room : Fits at (partRows asked ws is ∷ [])
+  pub starts : Segments asked ws is
+  pub room : Fits at (startRows asked ws is ∷ [])
 
 -- ---- a setting
-pub record SetAsks (asked : Asked) (ws S is : List ℕ) (total moves : ℕ) : Type 0 where
+pub record RowsAsk (asked : Asked) (ws S is : List ℕ) (total moves : ℕ) : Type 0 where
   pub text : Summed asked ws S
-  pub parts : Parts asked ws is
-  pub room : Fits 0 (head asked (length ws) total (length is) ∷ partRows asked ws is ∷ movesRow moves ∷ [])
+  pub starts : Segments asked ws is
+  pub room : Fits 0 (head asked (length ws) total (length is) ∷ startRows asked ws is ∷ movesRow moves ∷ [])
 
--- the strips that are listed, at their used part
+-- the strips that are listed, at the part used
 pub record IsSet (asked : Asked) (ws S is : List ℕ) (total lines moves : ℕ) : Type 0 where
   pub sums-room : length ws + 1 ≤ length S
-  pub parts-room : lines ≤ length is
-  pub asks : SetAsks asked ws (take (length ws + 1) S) (take lines is) total moves
+  pub starts-room : lines ≤ length is
+  pub asks : RowsAsk asked ws (take (length ws + 1) S) (take lines is) total moves
   pub listing : askedListing asked ws ≡ setRows asked ws (take lines is) total moves
 
 -- what each answer comes to

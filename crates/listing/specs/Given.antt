@@ -1,14 +1,14 @@
 -- The listing of a job is 01's listing of what the definitions give, case by case; and what the promise says of a buffer with room and of
 -- one without. Assumes nothing but what each law states.
 use Prim.Native.Nat.{ℕ, _≤_, _<_}
-use mathlib.Core.Path.{_≡_, refl, ap, sym, subst, _∙_}
+use mathlib.Core.Path.{_≡_, ap, _∙_}
 use mathlib.Core.List.{List, []}
-use mathlib.Core.Bool.{Bool, true, false}
+use mathlib.Core.Logic.{⊎-elim}
 use native.Mathlib.Omega.{arith}
-use lib.Dec.{leb}
-use borrow.Author.Tests.{le-leb, lt-leb, leb-true, leb-false}
+use borrow.Author.Tests.{le-leb, lt-leb}
 use lib.ListN.{length, take, drop, length-take}
 use lib.Seq.{take-append-seam, drop-append-seam}
+use Rattle.laws.specs.Number.{split}
 use Rattle.laws.specs.Cost.{none, some}
 use Rattle.laws.specs.Strip.{over}
 use Rattle.paper.specs.declared.Refusal.{Refusal}
@@ -21,7 +21,7 @@ use Rattle.job.specs.Bounds.{longest}
 use Rattle.job.specs.First.{reading-first}
 use Rattle.listing.specs.declared.Listed.{Listed}
 use Rattle.listing.specs.declared.Listed.the-variants.{Written, Short}
-use Rattle.listing.specs.Listing.{refused, refusal, holds, least, parts, moved, setRows}
+use Rattle.listing.specs.Listing.{refused, refusal, holds, least, starts, moved, setRows}
 use Rattle.listing.specs.Listing.{costListing, checkedListing, askedListing, listed, listingOf}
 use Rattle.laws.specs.Outcome.{Promise, Is}
 use Rattle.listing.specs.Promise.{outcome}
@@ -47,7 +47,7 @@ module _ (job : List ℕ) (asked : Asked) (ws : List ℕ) (read : reading job mo
   listed-none e f = rw (read, e, f)
 
   pub listed-set : checked (holds asked) ws [] [] ≡ Accept → (total : ℕ) → least asked ws ≡ some total →
-      listingOf job ≡ setRows asked ws (parts asked ws) total (moved asked ws)
+      listingOf job ≡ setRows asked ws (starts asked ws) total (moved asked ws)
   unfolding listingOf listed askedListing checkedListing costListing
   listed-set e total f = rw (read, e, f)
 
@@ -73,19 +73,9 @@ module _ (bytes s : List ℕ) {r : Listed} {t : List ℕ} (p : Promise Is (outco
       (q .tells, q .strips)
 
   -- what is written lies in the buffer
-  pub written-within : (n : ℕ) → r ≡ Written n → n ≤ length t
-  written-within n e = go (leb (length bytes) (length s)) refl
-    where
-      count : Listed → ℕ
-      count (Written k) = k
-      count (Short k) = 0
-
-      isShort : Listed → Type 0
-      isShort (Written k) = ⊥
-      isShort (Short k) = Unit
-
-      go : (b : Bool) → leb (length bytes) (length s) ≡ b → n ≤ length t
-      go true h =
-          let fits : length bytes ≤ length s = leb-true (length bytes) (length s) h in
-          omega (arith, ap count (sym e ∙ with-room fits .0), ap length (with-room fits .1), length-take (length bytes) t)
-      go false h = absurd (subst isShort (sym (without-room (leb-false (length bytes) (length s) h) .0) ∙ e) tt)
+  pub written-within : {n : ℕ} → r ≡ Written n → n ≤ length t
+  written-within {n} e =
+      ⊎-elim
+      (λ h. let same : n ≡ length bytes = cc (with-room h .0) in omega (arith, ap length (with-room h .1), length-take (length bytes) t))
+      (λ h. let z : _≡_ {A = ℕ} 0 1 = cc (without-room h .0) in absurd (omega arith))
+      (split (length bytes) (length s))

@@ -36,9 +36,9 @@ unfoldable pub least : Asked → List ℕ → Cost
 least (AskedParagraph l) ws = Paragraph.best l ws 1
 least (AskedIndex l) ws = Index.best l ws 0
 
-unfoldable pub parts : Asked → List ℕ → List ℕ
-parts (AskedParagraph l) ws = Paragraph.breaks l ws
-parts (AskedIndex l) ws = Index.boundaries l ws
+unfoldable pub starts : Asked → List ℕ → List ℕ
+starts (AskedParagraph l) ws = Paragraph.breaks l ws
+starts (AskedIndex l) ws = Index.boundaries l ws
 
 unfoldable pub moved : Asked → List ℕ → ℕ
 moved (AskedParagraph l) ws = length (queueMoves l ws)
@@ -46,36 +46,36 @@ moved (AskedIndex l) ws = length (pointerMoves l ws)
 
 -- ---- "First n, the total, the count of lines; then for each line [a row]; then the count of moves."
 abbrev pub headed : List ℕ → ℕ → List ℕ → ℕ → List ℕ → ℕ → List ℕ
-headed kind n cost total parts count = row kind (n ∷ []) ++ (row cost (total ∷ []) ++ row parts (count ∷ []))
+headed kind n cost total starts count = row kind (n ∷ []) ++ (row cost (total ∷ []) ++ row starts (count ∷ []))
 
 unfoldable pub head : Asked → ℕ → ℕ → ℕ → List ℕ
 head (AskedParagraph l) n total count = headed (ascii "paragraph") n (ascii "penalty") total (ascii "lines") count
 head (AskedIndex l) n total count = headed (ascii "index") n (ascii "keys") total (ascii "boundaries") count
 
--- "for each line its first word, length and penalty"; "Each boundary line has its index and its length." This is what follows the index i
--- of a part that goes up to j.
+-- "for each line its first word, length and penalty"; "Each boundary line has its index and its length." This is what follows a start's
+-- index i, where the next start is j.
 unfoldable pub values : Asked → List ℕ → ℕ → ℕ → List ℕ
 values (AskedParagraph l) ws i j = line ws i j ∷ charge l ws i j ∷ []
 values (AskedIndex l) ws i j = item ws i ∷ []
 
-abbrev pub partRow : Asked → List ℕ → ℕ → ℕ → List ℕ
-partRow asked ws i j = row (digits i) (values asked ws i j)
+abbrev pub startRow : Asked → List ℕ → ℕ → ℕ → List ℕ
+startRow asked ws i j = row (digits i) (values asked ws i j)
 
--- A part goes up to the next one, the last to the end.
-unfoldable pub partRows : Asked → List ℕ → List ℕ → List ℕ
-partRows asked ws [] = []
-partRows asked ws (i ∷ is) = partRow asked ws i (getD is 0 (end ws)) ++ partRows asked ws is
+-- A start goes up to the next one, the last to the end.
+unfoldable pub startRows : Asked → List ℕ → List ℕ → List ℕ
+startRows asked ws [] = []
+startRows asked ws (i ∷ is) = startRow asked ws i (getD is 0 (end ws)) ++ startRows asked ws is
 
 abbrev pub movesRow : ℕ → List ℕ
 movesRow moves = row (ascii "moves") (moves ∷ [])
 
 abbrev pub setRows : Asked → List ℕ → List ℕ → ℕ → ℕ → List ℕ
-setRows asked ws is total moves = head asked (length ws) total (length is) ++ (partRows asked ws is ++ movesRow moves)
+setRows asked ws is total moves = head asked (length ws) total (length is) ++ (startRows asked ws is ++ movesRow moves)
 
 -- ---- NONE, or the setting: "for P4 it is `refused 6 0`"
 unfoldable pub costListing : Asked → List ℕ → Cost → List ℕ
 costListing asked ws none = refused 6 0
-costListing asked ws (some total) = setRows asked ws (parts asked ws) total (moved asked ws)
+costListing asked ws (some total) = setRows asked ws (starts asked ws) total (moved asked ws)
 
 unfoldable pub checkedListing : Asked → List ℕ → Checked → List ℕ
 checkedListing asked ws (Refuse r) = refusal r

@@ -27,10 +27,10 @@ use Rattle.rows.specs.Size.{row-one, row-two}
 use Rattle.rows.specs.Puts.{sizes}
 use Rattle.listing.specs.declared.Listed.{Listed}
 use Rattle.listing.specs.declared.Listed.the-variants.{Written}
-use Rattle.listing.specs.Listing.{refused, refusal, holds, least, parts, moved, headed, head, partRow, partRows, movesRow}
+use Rattle.listing.specs.Listing.{refused, refusal, holds, least, starts, moved, headed, head, startRow, startRows, movesRow}
 use Rattle.listing.specs.Listing.{costListing, checkedListing, askedListing, listed, listingOf}
-use Rattle.listing.specs.Asks.{Parts}
-use Rattle.listing.specs.Settings.{four-digits, part-size, SetIs, set-is}
+use Rattle.listing.specs.Asks.{Segments}
+use Rattle.listing.specs.Settings.{four-digits, start-size, SetIs, set-is}
 use Rattle.listing.specs.Promise.{outcome}
 use Rattle.listing.specs.Given.{with-room}
 
@@ -38,16 +38,16 @@ abbrev pub mostBytes : ℕ
 mostBytes = 81979
 
 -- ---- the rows of a setting
-headed-size : (kind : List ℕ) (n : ℕ) (cost : List ℕ) (total : ℕ) (parts : List ℕ) (count : ℕ) →
+headed-size : (kind : List ℕ) (n : ℕ) (cost : List ℕ) (total : ℕ) (starts : List ℕ) (count : ℕ) →
     n ≤ mostWords → total < 2 ^ 40 → count ≤ mostWords →
-    length (headed kind n cost total parts count) ≤ length kind + length cost + length parts + 27
-headed-size kind n cost total parts count hn ht hc =
+    length (headed kind n cost total starts count) ≤ length kind + length cost + length starts + 27
+headed-size kind n cost total starts count hn ht hc =
     simp length-append
     (omega (
       arith,
       row-one kind n,
       row-one cost total,
-      row-one parts count,
+      row-one starts count,
       four-digits n (omega arith),
       digits-width 13 total (omega arith) (omega arith),
       four-digits count (omega arith),
@@ -61,44 +61,40 @@ head-size (AskedParagraph l) n total count hn ht hc =
 head-size (AskedIndex l) n total count hn ht hc =
     omega (arith, headed-size (ascii "index") n (ascii "keys") total (ascii "boundaries") count hn ht hc)
 
-parts-size : (asked : Asked) (ws : List ℕ) → Passed (holds asked) ws → (is : List ℕ) → Parts asked ws is →
-    length (partRows asked ws is) ≤ 20 * length is
-unfolding partRows
-parts-size asked ws passed [] all = omega arith
-parts-size asked ws passed (i ∷ is) all =
+starts-size : (asked : Asked) (ws : List ℕ) → Passed (holds asked) ws → (is : List ℕ) → Segments asked ws is →
+    length (startRows asked ws is) ≤ 20 * length is
+unfolding startRows
+starts-size asked ws passed [] all = omega arith
+starts-size asked ws passed (i ∷ is) all =
     let next = getD is 0 (end ws) in
     omega (
       arith,
-      length-append (partRow asked ws i next) (partRows asked ws is),
-      part-size asked ws i next passed (all .each 0 (omega arith)),
-      parts-size asked ws passed is (record { each = λ k h. all .each (suc k) (omega arith) }),
+      length-append (startRow asked ws i next) (startRows asked ws is),
+      start-size asked ws i next passed (all .each 0 (omega arith)),
+      starts-size asked ws passed is (record { each = λ k h. all .each (suc k) (omega arith) }),
     )
 
-pub set-size : (asked : Asked) (ws : List ℕ) → Passed (holds asked) ws → (total : ℕ) → SetIs asked ws (parts asked ws) total →
-    sizes (head asked (length ws) total (length (parts asked ws)) ∷ partRows asked ws (parts asked ws) ∷ movesRow (moved asked ws) ∷ [])
+pub set-size : (asked : Asked) (ws : List ℕ) → Passed (holds asked) ws → (total : ℕ) → SetIs asked ws (starts asked ws) total →
+    sizes (head asked (length ws) total (length (starts asked ws)) ∷ startRows asked ws (starts asked ws) ∷ movesRow (moved asked ws) ∷ [])
     ≤ mostBytes
 set-size asked ws passed total s =
     omega (
       arith,
-      head-size asked (length ws) total (length (parts asked ws)) (passed .few) (s .small) (omega (arith, s .few, passed .few)),
-      parts-size asked ws passed (parts asked ws) (s .all),
+      head-size asked (length ws) total (length (starts asked ws)) (passed .few) (s .small) (omega (arith, s .few, passed .few)),
+      starts-size asked ws passed (starts asked ws) (s .all),
       row-one (ascii "moves") (moved asked ws),
       four-digits (moved asked ws) (omega (arith, s .moves, passed .few)),
       s .few,
       passed .few,
     )
 
--- ---- a refusal: its number has one digit, its place at most five
-refused-size : (number place : ℕ) → number < 10 → place < 10 ^ 5 → length (refused number place) ≤ 16
+-- ---- a refusal
+pub refused-size : (j k number place : ℕ) → number < 10 ^ j → 1 ≤ j → place < 10 ^ k → 1 ≤ k → length (refused number place) ≤ 10 + j + k
 unfolding refused
-refused-size number place h g =
-    omega (
-      arith,
-      row-two (ascii "refused") number place,
-      digits-width 1 number (omega arith) (omega arith),
-      digits-width 5 place g (omega arith),
-    )
+refused-size j k number place h hj g hk =
+    omega (arith, row-two (ascii "refused") number place, digits-width j number h hj, digits-width k place g hk)
 
+-- its number has one digit, its place at most five
 one-digit : (r : Refusal) → toldRefusal r .number < 10
 unfolding toldRefusal
 one-digit Empty = omega arith
@@ -110,7 +106,7 @@ one-digit (Malformed offset) = omega arith
 
 refusal-size : (r : Refusal) → toldRefusal r .place < 10 ^ 5 → length (refusal r) ≤ 16
 unfolding refusal
-refusal-size r h = refused-size (toldRefusal r .number) (toldRefusal r .place) (one-digit r) h
+refusal-size r h = refused-size 1 5 (toldRefusal r .number) (toldRefusal r .place) (one-digit r) (omega arith) h (omega arith)
 
 -- a length that fails is one of the words
 failing-within : (k : ℕ) (ws : List ℕ) → firstFailing lengthHolds k ws ≤ k + length ws
@@ -142,7 +138,7 @@ unfolding askedListing checkedListing costListing
 asked-size asked ws = checked-size (checked (holds asked) ws [] []) refl (checked-few (holds asked) ws)
   where
     cost-size : Passed (holds asked) ws → (c : Cost) → least asked ws ≡ c → length (costListing asked ws c) ≤ mostBytes
-    cost-size passed none e = omega (arith, refused-size 6 0 (omega arith) (omega arith))
+    cost-size passed none e = omega (arith, refused-size 1 1 6 0 (omega arith) (omega arith) (omega arith) (omega arith))
     cost-size passed (some v) e = simp length-append (omega (arith, set-size asked ws passed v (set-is asked ws passed v e)))
 
     checked-size : (c : Checked) → checked (holds asked) ws [] [] ≡ c → PlaceFew c → length (checkedListing asked ws c) ≤ mostBytes

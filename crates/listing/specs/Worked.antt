@@ -8,13 +8,13 @@ use Rattle.paper.specs.Told.{toldRefusal}
 use Rattle.job.specs.Jobs as Jobs
 use Rattle.job.specs.Jobs.{bytes, P1, G1}
 use Rattle.rows.specs.Rows.{ascii, digitsIn, digits, ended, row}
-use Rattle.listing.specs.Listing.{refused, refusal, holds, least, parts, moved, head, values, partRows}
+use Rattle.listing.specs.Listing.{refused, refusal, holds, least, starts, moved, head, values, startRows}
 use Rattle.listing.specs.Listing.{costListing, checkedListing, askedListing, listed, listingOf}
 
 -- the listing, with all that it rests on open
 unfoldable worked : List ℕ → List ℕ
 unfolding Jobs.worked paragraphComputes indexComputes Paragraph.charge toldRefusal
-    digitsIn digits ended row refused refusal holds least parts moved head values partRows
+    digitsIn digits ended row refused refusal holds least starts moved head values startRows
     costListing checkedListing askedListing listed listingOf
 worked = listingOf
 

@@ -1,8 +1,8 @@
 // The listing of a paragraph and of an index: what the setter answers, listed.
 use crate::Listed;
 use crate::heading::head;
-use crate::parts::part_rows;
 use crate::refusal::refused;
+use crate::starts::start_rows;
 use job::Asked;
 use paper::Answer;
 use paper::Limits;
@@ -16,7 +16,7 @@ ghost use Rattle.job.specs.declared.Asked.the-variants.{Paragraph, Index};
 ghost use Rattle.rows.specs.Puts.{Puts};
 ghost use Rattle.laws.specs.Outcome.{Promise, Is};
 ghost use Rattle.listing.specs.Listing.{setRows, askedListing};
-ghost use Rattle.listing.specs.Asks.{SetAsks, Answered};
+ghost use Rattle.listing.specs.Asks.{RowsAsk, Answered};
 ghost use Rattle.listing.specs.Promise.{outcome};
 
 // Puts all rows of a setting. Answers how many bytes they have.
@@ -24,17 +24,17 @@ fn set_rows(
     asked: Asked,
     lengths: &[u32],
     sums: &[u32],
-    parts: &[u32],
+    starts: &[u32],
     total: u64,
     moves: usize,
     out: &mut [u8],
 ) -> usize
-    requires { ⌜ SetAsks asked (now lengths) (now sums) (now parts) total moves ⌝ }
-    ensures { λ r. ⌜ Puts (setRows asked (now (lengths .entry)) (now (parts .entry)) total moves)
+    requires { ⌜ RowsAsk asked (now lengths) (now sums) (now starts) total moves ⌝ }
+    ensures { λ r. ⌜ Puts (setRows asked (now (lengths .entry)) (now (starts .entry)) total moves)
         0 (now (out .entry)) r (now (out .exit)) ⌝ }
 {
-    let at = head(asked, lengths.len(), total, parts.len(), out);
-    let next = part_rows(asked, lengths, sums, parts, out, at);
+    let at = head(asked, lengths.len(), total, starts.len(), out);
+    let next = start_rows(asked, lengths, sums, starts, out, at);
     named(out, next, b"moves", &[moves as u64])
 }
 
@@ -43,21 +43,21 @@ fn list_set(
     asked: Asked,
     lengths: &[u32],
     sums: &[u32],
-    parts: &[u32],
+    starts: &[u32],
     total: u64,
     moves: usize,
     out: &mut [u8],
 ) -> Listed
-    requires { ⌜ SetAsks asked (now lengths) (now sums) (now parts) total moves ⌝ }
+    requires { ⌜ RowsAsk asked (now lengths) (now sums) (now starts) total moves ⌝ }
     ensures { λ r. ⌜ Promise Is
-        (outcome (setRows asked (now (lengths .entry)) (now (parts .entry)) total moves) (now (out .entry)))
+        (outcome (setRows asked (now (lengths .entry)) (now (starts .entry)) total moves) (now (out .entry)))
         r (now (out .exit)) ⌝ }
 {
-    let size = set_rows(asked, lengths, sums, parts, total, moves, &mut out[..0]);
+    let size = set_rows(asked, lengths, sums, starts, total, moves, &mut out[..0]);
     if out.len() < size {
         return Listed::Short(size);
     }
-    set_rows(asked, lengths, sums, parts, total, moves, out);
+    set_rows(asked, lengths, sums, starts, total, moves, out);
     Listed::Written(size)
 }
 
@@ -66,11 +66,11 @@ fn list_answer(
     asked: Asked,
     lengths: &[u32],
     sums: &[u32],
-    parts: &[u32],
+    starts: &[u32],
     answer: Answer,
     out: &mut [u8],
 ) -> Listed
-    requires { ⌜ Answered asked (now lengths) (now sums) (now parts) answer ⌝ }
+    requires { ⌜ Answered asked (now lengths) (now sums) (now starts) answer ⌝ }
     ensures { λ r. ⌜ Promise Is
         (outcome (askedListing asked (now (lengths .entry))) (now (out .entry)))
         r (now (out .exit)) ⌝ }
@@ -86,7 +86,7 @@ fn list_answer(
                 asked,
                 lengths,
                 &sums[..n + 1],
-                &parts[..lines],
+                &starts[..lines],
                 total,
                 moves,
                 out,

@@ -6,23 +6,23 @@ ghost use Rattle.rows.specs.Rows.{row};
 ghost use Rattle.rows.specs.Puts.{Fits, Puts};
 ghost use Rattle.listing.specs.Listing.{headed, head};
 
-// What is listed and n, the name of the total and the total, the name of the parts and their count.
+// What is listed and n, the name of the total and the total, the name of the starts and their count.
 fn heading(
     out: &mut [u8],
     kind: &[u8],
     n: usize,
     cost: &[u8],
     total: u64,
-    parts: &[u8],
+    starts: &[u8],
     count: usize,
 ) -> usize
-    requires { ⌜ Fits 0 (row (now kind) (n ∷ []) ∷ row (now cost) (total ∷ []) ∷ row (now parts) (count ∷ []) ∷ []) ⌝ }
-    ensures { λ r. ⌜ Puts (headed (now (kind .entry)) n (now (cost .entry)) total (now (parts .entry)) count)
+    requires { ⌜ Fits 0 (row (now kind) (n ∷ []) ∷ row (now cost) (total ∷ []) ∷ row (now starts) (count ∷ []) ∷ []) ⌝ }
+    ensures { λ r. ⌜ Puts (headed (now (kind .entry)) n (now (cost .entry)) total (now (starts .entry)) count)
         0 (now (out .entry)) r (now (out .exit)) ⌝ }
 {
     let next = named(out, 0, kind, &[n as u64]);
     let after = named(out, next, cost, &[total]);
-    named(out, after, parts, &[count as u64])
+    named(out, after, starts, &[count as u64])
 }
 
 // The same in the words for what is asked.

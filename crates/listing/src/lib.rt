@@ -2,8 +2,8 @@
 // caller.
 mod answer;
 mod heading;
-mod parts;
 mod refusal;
+mod starts;
 
 use answer::list_asked;
 use job::Job;

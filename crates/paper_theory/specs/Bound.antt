@@ -66,9 +66,9 @@ module _ (p : Lines) (i j : ℕ) (t : T (admissible p i j)) where
 
 -- a line within lmax costs at most C, with what its break is charged
 module _ (p : Lines) (C : ℕ) (each : (x : ℕ) → x ≤ p .lmax → (j : ℕ) → p .penalty x + p .break j ≤ C) where
-  charge-bound : (i j : ℕ) → p .line i j ≤ p .lmax → charge p i j ≤ C
+  line-bound : (i j : ℕ) → p .line i j ≤ p .lmax → charge p i j ≤ C
   unfolding charge
-  charge-bound i j h = go (eqb j (p .end) && leb (p .line i j) (p .lopt))
+  line-bound i j h = go (eqb j (p .end) && leb (p .line i j) (p .lopt))
     where
       go : (b : Bool) → if b 0 (p .penalty (p .line i j) + p .break j) ≤ C
       go true = omega arith
@@ -77,7 +77,7 @@ module _ (p : Lines) (C : ℕ) (each : (x : ℕ) → x ≤ p .lmax → (j : ℕ)
   pub lines-bound : (i v : ℕ) → i ≤ p .end → Lines.best p i ≡ some v → v ≤ (p .end - i) * C
   unfolding settings
   lines-bound i v high e =
-      best-bound (settings p) C (λ j k ch. charge-bound j k (admissible-lmax p j k (ch .admissible))) (λ c n. omega arith) refl i v high
+      best-bound (settings p) C (λ j k ch. line-bound j k (admissible-lmax p j k (ch .admissible))) (λ c n. omega arith) refl i v high
       (subst (Best (settings p) i) e (best-lines p i high))
 
 -- what a line of 01's paragraph costs
@@ -89,6 +89,13 @@ charge-is l ws i j = go (eqb j (end ws) && leb (line ws i j) (l .lopt))
     go : (b : Bool) → if b 0 (penalty l (line ws i j) + 0) ≡ if b 0 (penalty l (line ws i j))
     go true = refl
     go false = omega arith
+
+pub charge-bound : (l : Limits) → Ranges l → (ws : List ℕ) (i j : ℕ) → line ws i j ≤ l .lmax → Paragraph.charge l ws i j < 2 ^ 28
+charge-bound l r ws i j h = rw (charge-is l ws i j) (go (eqb j (end ws) && leb (line ws i j) (l .lopt)))
+  where
+    go : (b : Bool) → if b 0 (penalty l (line ws i j)) < 2 ^ 28
+    go true = omega arith
+    go false = penalty-bound l r (line ws i j) h
 
 pub paragraph-bound : (l : Limits) → Ranges l → (ws : List ℕ) → length ws ≤ 4096 → (i v : ℕ) → 1 ≤ i → i ≤ end ws →
     Paragraph.best l ws i ≡ some v → v < 2 ^ 40

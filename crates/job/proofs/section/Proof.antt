@@ -20,23 +20,11 @@ returns c = record { count = omega arith; strip = simp (lt-leb _ _ (c .if1 .take
 loop-holds : tie.Need-loop-holds Inv-loop μ-loop
 loop-holds c = written-none _ _ _ (c .if1 .left)
 
-mul-number : tie.Need-mul-number Inv-loop μ-loop
-mul-number c = omega (arith, c .before .before .before .before .before .good)
-
-mul-out : tie.Need-mul-out Inv-loop μ-loop
-mul-out c = omega (arith, c .before .before .before .before .before .before .good)
-
-slice-write-out : tie.Need-slice-write-out Inv-loop μ-loop
-slice-write-out c = omega (arith, c .before .before .before .before .before .before .pre)
-
 loop-again : tie.Need-loop-again Inv-loop μ-loop
 loop-again c =
     let loop = c .before .before in
     written-more (loop .loop .inv) (c .number .result) (c .before .loop-test .taken) (loop .before .before .before .before .pre)
     (c .number .ensures)
-
-same-length : tie.Need-same-length Inv-loop μ-loop
-same-length c = c .before .loop .inv .same
 
 returns-2 : tie.Need-returns-2 Inv-loop μ-loop
 returns-2 c = written-all (c .before .loop .inv) (c .loop-test .left)
@@ -44,5 +32,5 @@ returns-2 c = written-all (c .before .loop .inv) (c .loop-test .left)
 pub section-spec : {M : Type 1} → statement M
 section-spec =
     tie.close
-    (tie.spec Inv-loop μ-loop returns loop-holds mul-number (λ c κs. search needs) mul-out slice-write-out (λ c. search needs)
-    (λ c. search needs) loop-again same-length returns-2)
+    (tie.spec Inv-loop μ-loop returns loop-holds (λ c. search needs) (λ c κs. search needs) (λ c. search needs) (λ c. search needs)
+    (λ c. search needs) (λ c. search needs) loop-again (λ c. search needs) returns-2)

@@ -1,7 +1,6 @@
 -- `rows::number` meets its contract. The measure is the number, of which each call of itself has the digits but the last. Assumes nothing.
-use mathlib.Core.Path.{_∙_}
 use native.Mathlib.Omega.{arith}
-use Rattle.rows.specs.Puts.{puts-length}
+use borrow.Author.Needs.{needs}
 use Rattle.rows.proofs.Turns.{digit-fits, digit-put, before-fits, then-fits, then-put}
 use Prim.Native.Nat.{ℕ, _<_}
 use borrow.Fn.Kinds.{In}
@@ -47,11 +46,6 @@ number-put-requires-2 t c κs =
     let test = front .before .before in
     then-fits _ _ (test .if1 .left) (c .digit-of2 .ensures) (front .number .ensures) (test .before .before .pre .1)
 
-number-same-length-2 : (t : ℕ) → number-lts.Need-same-length-2 (claims t) (number-at t) number.Post
-number-same-length-2 t c =
-    let put = c .before .before in
-    puts-length (put .put2 .ensures) ∙ puts-length (put .before .before .before .before .before .number .ensures)
-
 number-returns-2 : (t : ℕ) → number-lts.Need-returns-2 (claims t) (number-at t) number.Post
 number-returns-2 t c =
     let digit = c .before .before .before in
@@ -60,5 +54,5 @@ number-returns-2 t c =
 
 pub +number-spec : {M : Type 1} → statement M
 +number-spec = close μ-number λ t. number-lts.spec (claims t) (number-at t) number.Post
-    (λ c κs. c .before .if1 .taken) (number-put-requires t) (λ c. puts-length (c .before .before .put .ensures)) (number-returns t)
-    (number-number-requires t) (λ c κs. omega arith) (number-put-requires-2 t) (number-same-length-2 t) (number-returns-2 t)
+    (λ c κs. search needs) (number-put-requires t) (λ c. search needs) (number-returns t)
+    (number-number-requires t) (λ c κs. search needs) (number-put-requires-2 t) (λ c. search needs) (number-returns-2 t)

@@ -1,4 +1,5 @@
 -- `rows::end` meets its contract. Assumes nothing.
+use borrow.Author.Needs.{needs}
 use Prim.Native.Nat.{_-_}
 use mathlib.Core.Path.{_∙_}
 use native.Mathlib.Omega.{arith}
@@ -21,21 +22,12 @@ put-requires c κs =
     let f = turn-fits (loop .loop .inv) (c .before .loop-test .taken) (loop .before .before .before .pre) in
     omega arith
 
-mul-number : tie.Need-mul-number Inv-loop μ-loop
-mul-number c = omega (arith, c .before .before .before .before .before .before .before .before .before .good)
-
 number-requires : tie.Need-number-requires Inv-loop μ-loop
 number-requires c κs =
     let space = c .before .before .before .before in
     let loop = space .before .before .before in
     let f = turn-fits (loop .loop .inv) (space .before .before .loop-test .taken) (loop .before .before .before .pre) in
     omega (arith, space .put .ensures)
-
-add-k : tie.Need-add-k Inv-loop μ-loop
-add-k c = omega (arith, c .before .before .before .before .before .before .before .before .before .loop-test .taken)
-
-loop-less : tie.Need-loop-less Inv-loop μ-loop
-loop-less c = omega (arith, c .before .before .before .before .before .before .before .before .before .loop-test .taken)
 
 loop-again : tie.Need-loop-again Inv-loop μ-loop
 loop-again c =
@@ -59,5 +51,5 @@ returns c =
 pub end-spec : {M : Type 1} → statement M
 end-spec =
     tie.close
-    (tie.spec Inv-loop μ-loop (λ c. along-first) put-requires mul-number (λ c. omega arith) number-requires add-k loop-less loop-again
-    put-requires-2 same-length returns)
+    (tie.spec Inv-loop μ-loop (λ c. along-first) put-requires (λ c. search needs) (λ c. search needs) number-requires (λ c. search needs)
+    (λ c. search needs) loop-again put-requires-2 same-length returns)

@@ -1,7 +1,6 @@
 -- `rows::named` meets its contract. Assumes nothing.
-use mathlib.Core.Path.{_∙_}
 use native.Mathlib.Omega.{arith}
-use Rattle.rows.specs.Puts.{puts-length}
+use borrow.Author.Needs.{needs}
 use Rattle.rows.proofs.Turns.{row-fits, row-put}
 use Rattle.rows.proofs.named.Statement.{statement}
 use Rattle.rows.proofs.named.Tie as tie
@@ -15,12 +14,8 @@ end-requires c κs =
     let f = row-fits _ _ (first .before .before .before .before .before .pre) in
     omega (arith, first .text .ensures)
 
-same-length : tie.Need-same-length
-same-length c =
-    puts-length (c .before .before .end .ensures) ∙ puts-length (c .before .before .before .before .before .before .text .ensures)
-
 returns : tie.Need-returns
 returns c = row-put _ _ (c .before .before .before .before .before .before .text .ensures) (c .before .before .end .ensures)
 
 pub named-spec : {M : Type 1} → statement M
-named-spec = tie.close (tie.spec text-requires end-requires same-length returns)
+named-spec = tie.close (tie.spec text-requires end-requires (λ c. search needs) returns)

@@ -8,5 +8,4 @@ returns : tie.Need-returns
 returns c = put-past _ _ _ (c .if1 .taken)
 
 pub put-spec : {M : Type 1} → statement M
-put-spec =
-    tie.close (tie.spec (λ c. search needs) returns (λ c. search needs) (λ c. search needs) (λ c. search needs) (λ c. search needs))
+put-spec = tie.close (tie.spec (λ c. search needs) returns (λ c. search needs) (λ c. search needs) (λ c. search needs) (λ c. search needs))

@@ -3,7 +3,7 @@ use Prim.Native.Nat.{_-_}
 use mathlib.Core.Path.{refl}
 use mathlib.Core.List.{List}
 use Prim.Native.Nat.{ℕ}
-use native.Mathlib.Omega.{arith}
+use borrow.Author.Needs.{needs}
 use lib.ListN.{length}
 use Rattle.rows.specs.Puts.{puts-none, Along, along-first, along-length, along-fits, along-more, along-end}
 use Rattle.rows.proofs.text.Statement.{statement}
@@ -35,5 +35,5 @@ returns c = along-end (c .before .loop .inv) (c .loop-test .left) puts-none
 pub text-spec : {M : Type 1} → statement M
 text-spec =
     tie.close
-    (tie.spec Inv-loop μ-loop (λ c. along-first) (λ c. omega arith) put-requires (λ c. omega arith) (λ c. omega arith) loop-again
+    (tie.spec Inv-loop μ-loop (λ c. along-first) (λ c. search needs) put-requires (λ c. search needs) (λ c. search needs) loop-again
     (λ c. along-length (c .before .loop .inv)) returns)

@@ -16,7 +16,7 @@ slice-aggregate-list-set-2 : tie.Need-slice-aggregate-list-set-2
 slice-aggregate-list-set-2 c =
     let known = c .before .before .before in
     let set = rw (known .answer .given .1) at (known .before .before .before .before .before .before .pre) in
-    sym (length-take-le _ _ (set .parts-room))
+    sym (length-take-le _ _ (set .starts-room))
 
 list-set-requires : tie.Need-list-set-requires
 list-set-requires c κs =

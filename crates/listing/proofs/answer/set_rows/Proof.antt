@@ -8,7 +8,7 @@ returns : tie.Need-returns
 returns c =
     let last = c .before .before in
     let rows = last .before .before .before .before .before .before in
-    puts-then (rows .before .before .before .before .head .ensures) (puts-then (rows .part-rows .ensures) (last .named .ensures))
+    puts-then (rows .before .before .before .before .head .ensures) (puts-then (rows .start-rows .ensures) (last .named .ensures))
 
 pub set-rows-spec : {M : Type 1} → statement M
 set-rows-spec =

@@ -2,8 +2,8 @@
 use mathlib.Core.Logic.{inl, inr, ⊎-elim}
 use borrow.Author.Needs.{needs}
 use Rattle.listing.proofs.Measuring.{line-span, free-is, paid-inside, paid-is}
-use Rattle.listing.proofs.parts.measured.Statement.{statement}
-use Rattle.listing.proofs.parts.measured.Tie as tie
+use Rattle.listing.proofs.starts.measured.Statement.{statement}
+use Rattle.listing.proofs.starts.measured.Tie as tie
 
 line-requires : tie.Need-line-requires
 line-requires c κs = line-span (c .before .before .pre)

@@ -1,8 +1,8 @@
--- `listing::part_row` meets its contract. Assumes nothing.
+-- `listing::start_row` meets its contract. Assumes nothing.
 use borrow.Author.Needs.{needs}
 use Rattle.listing.proofs.Rows.{line-asks, line-row, boundary-row}
-use Rattle.listing.proofs.parts.part_row.Statement.{statement}
-use Rattle.listing.proofs.parts.part_row.Tie as tie
+use Rattle.listing.proofs.starts.start_row.Statement.{statement}
+use Rattle.listing.proofs.starts.start_row.Tie as tie
 
 measured-requires : tie.Need-measured-requires
 measured-requires c κs = line-asks (c .before .before .before .before .before .before .pre) (c .before .asked .given .1)
@@ -34,8 +34,8 @@ returns-2 c =
     let pre = asked .before .before .before .before .before .pre in
     rw (boundary-row pre (asked .enum-told .given .1) (long .long .ensures)) (c .before .before .numbered2 .ensures)
 
-pub part-row-spec : {M : Type 1} → statement M
-part-row-spec =
+pub start-row-spec : {M : Type 1} → statement M
+start-row-spec =
     tie.close
     (tie.spec (λ c. search needs) measured-requires (λ c. search needs) numbered-requires (λ c. search needs) (λ c. search needs)
     (λ c. search needs) (λ c. search needs) (λ c κs. search needs) (λ c. search needs) numbered-requires-2 (λ c. search needs) returns

@@ -1,4 +1,4 @@
-// The rows of a setting's parts: a paragraph's lines, an index's boundaries.
+// The rows of a setting's starts: a paragraph's lines, an index's boundaries.
 use job::Asked;
 use lines::line;
 use lines::penalty;
@@ -10,8 +10,8 @@ ghost use mathlib.Core.Path.{_≡_};
 ghost use Prim.Native.Nat.{_+_, _<_};
 ghost use lib.ListN.{length, getD};
 ghost use Rattle.rows.specs.Puts.{Puts};
-ghost use Rattle.listing.specs.Listing.{partRow, partRows};
-ghost use Rattle.listing.specs.Asks.{LineAsks, LineIs, PartAsks, PartsAsk};
+ghost use Rattle.listing.specs.Listing.{startRow, startRows};
+ghost use Rattle.listing.specs.Asks.{LineAsks, LineIs, SegmentAsks, SegmentsAsk};
 
 // A line's length, and what it costs.
 struct LineRow {
@@ -37,8 +37,8 @@ fn measured(l: Limits, lengths: &[u32], sums: &[u32], i: usize, j: usize) -> Lin
     }
 }
 
-// Puts the row of the part from i to j.
-fn part_row(
+// Puts the row of the start i, whose next is j.
+fn start_row(
     asked: Asked,
     lengths: &[u32],
     sums: &[u32],
@@ -47,8 +47,8 @@ fn part_row(
     out: &mut [u8],
     at: usize,
 ) -> usize
-    requires { ⌜ PartAsks asked (now lengths) (now sums) i j at ⌝ }
-    ensures { λ r. ⌜ Puts (partRow asked (now (lengths .entry)) i j) at (now (out .entry)) r (now (out .exit)) ⌝ }
+    requires { ⌜ SegmentAsks asked (now lengths) (now sums) i j at ⌝ }
+    ensures { λ r. ⌜ Puts (startRow asked (now (lengths .entry)) i j) at (now (out .entry)) r (now (out .exit)) ⌝ }
 {
     match asked {
         Asked::Paragraph(l) => {
@@ -59,37 +59,37 @@ fn part_row(
     }
 }
 
-// Where the part after the k-th begins, or the end.
-fn next_part(parts: &[u32], k: usize, end: usize) -> usize
-    requires { ⌜ k < length (now parts) ⌝ }
-    ensures { λ r. ⌜ r ≡ getD (now (parts .entry)) (k + 1) end ⌝ }
+// The start after the k-th, or the end.
+fn next_start(starts: &[u32], k: usize, end: usize) -> usize
+    requires { ⌜ k < length (now starts) ⌝ }
+    ensures { λ r. ⌜ r ≡ getD (now (starts .entry)) (k + 1) end ⌝ }
 {
     let next = k + 1;
-    if next < parts.len() {
-        return wide(parts[next]);
+    if next < starts.len() {
+        return wide(starts[next]);
     }
     end
 }
 
-// Puts the rows of all parts.
-pub fn part_rows(
+// Puts the rows of all starts.
+pub fn start_rows(
     asked: Asked,
     lengths: &[u32],
     sums: &[u32],
-    parts: &[u32],
+    starts: &[u32],
     out: &mut [u8],
     at: usize,
 ) -> usize
-    requires { ⌜ PartsAsk asked (now lengths) (now sums) (now parts) at ⌝ }
-    ensures { λ r. ⌜ Puts (partRows asked (now (lengths .entry)) (now (parts .entry))) at (now (out .entry)) r (now (out .exit)) ⌝ }
+    requires { ⌜ SegmentsAsk asked (now lengths) (now sums) (now starts) at ⌝ }
+    ensures { λ r. ⌜ Puts (startRows asked (now (lengths .entry)) (now (starts .entry))) at (now (out .entry)) r (now (out .exit)) ⌝ }
 {
     let end = lengths.len() + 1;
     let mut next = at;
     let mut k = 0;
-    while k < parts.len() {
-        let i = wide(parts[k]);
-        let j = next_part(parts, k, end);
-        next = part_row(asked, lengths, sums, i, j, out, next);
+    while k < starts.len() {
+        let i = wide(starts[k]);
+        let j = next_start(starts, k, end);
+        next = start_row(asked, lengths, sums, i, j, out, next);
         k += 1;
     }
     next
