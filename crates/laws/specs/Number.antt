@@ -40,6 +40,9 @@ pub tested : (b : Bool) → (b ≡ true) ⊎ (b ≡ false)
 tested true = inl refl
 tested false = inr refl
 
+pub true-not-false : true ≡ false → ⊥
+true-not-false e = let z : _≡_ {A = ℕ} 0 1 = cc in omega arith
+
 -- what a choice comes to where its test is known
 pub when-true : {A : Type 0} (b : Bool) (x y : A) → b ≡ true → elim b [ true ↦ x | false ↦ y ] ≡ x
 when-true true x y e = refl
