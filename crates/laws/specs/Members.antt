@@ -23,10 +23,6 @@ module _ {A : Type 0} where
   every-map2 P Q R f [] h g = tt
   every-map2 P Q R f (x ∷ xs) h g = (f x (h .0) (g .0), every-map2 P Q R f xs (h .1) (g .1))
 
-  pub every-append : (P : A → Type 0) (xs ys : List A) → Every P xs → Every P ys → Every P (xs ++ ys)
-  every-append P [] ys h g = g
-  every-append P (x ∷ xs) ys h g = (h .0, every-append P xs ys (h .1) g)
-
   pub every-right : (P : A → Type 0) (xs ys : List A) → Every P (xs ++ ys) → Every P ys
   every-right P [] ys h = h
   every-right P (x ∷ xs) ys h = every-right P xs ys (h .1)
@@ -160,7 +156,8 @@ module _ {A : Type 0} (R : A → A → A → Type 0) where
 
 -- ---- the part of a strip from f up to e
 module _ (P : ℕ → Type 0) where
-  slice-steps : (d f e : ℕ) (s : List ℕ) → e - f ≡ d → f ≤ e → e ≤ length s → ((a : ℕ) → f ≤ a → a < e → P (getD s a 0)) → Every P (slice f e s)
+  slice-steps : (d f e : ℕ) (s : List ℕ) → e - f ≡ d → f ≤ e → e ≤ length s → ((a : ℕ) → f ≤ a → a < e → P (getD s a 0)) →
+      Every P (slice f e s)
   slice-steps zero f e s g fe es h = let z : f ≡ e = omega arith in rw (z, slice-empty e s) tt
   slice-steps (suc d) f e s g fe es h =
       rw (slice-cons f e s 0 (omega arith) es)
@@ -180,7 +177,8 @@ module _ (P : ℕ → Type 0) where
       go (suc d) f h g = go d (suc f) (first f (omega arith) h .1) (omega arith)
 
 -- two entries of such a part
-pub slice-pairs : (R : ℕ → ℕ → Type 0) (f e : ℕ) (s : List ℕ) → e ≤ length s → Pairs R (slice f e s) → (a b : ℕ) → f ≤ a → a < b → b < e → R (getD s a 0) (getD s b 0)
+pub slice-pairs : (R : ℕ → ℕ → Type 0) (f e : ℕ) (s : List ℕ) → e ≤ length s → Pairs R (slice f e s) →
+    (a b : ℕ) → f ≤ a → a < b → b < e → R (getD s a 0) (getD s b 0)
 slice-pairs R f e s es h a b fa ab be = go (a - f) f h (omega arith)
   where
     first : (f : ℕ) → f < e → Pairs R (slice f e s) → Every (R (getD s f 0)) (slice (suc f) e s) × Pairs R (slice (suc f) e s)
@@ -197,9 +195,11 @@ slice-pairs R f e s es h a b fa ab be = go (a - f) f h (omega arith)
 pub slice-rear : (f r e : ℕ) (s : List ℕ) → r + 1 ≡ e → f ≤ r → e ≤ length s → reverse (slice f e s) ≡ getD s r 0 ∷ reverse (slice f r s)
 slice-rear f r e s g fr es =
     let z : e ≡ suc r = omega arith in
-    rw (z, take-suc s r 0 (omega arith), drop-append-le f (take r s) (getD s r 0 ∷ []) (omega (arith, length-take-le r s (omega arith))), reverse-append)
+    let held = length-take-le r s (omega arith) in
+    rw (z, take-suc s r 0 (omega arith), drop-append-le f (take r s) (getD s r 0 ∷ []) (omega arith), reverse-append)
 
 -- one more entry behind the part: it comes first in the part turned round
 pub slice-push : (f e : ℕ) (s : List ℕ) (a : ℕ) → f ≤ e → e < length s → slice f (e + 1) (set s e a) ≡ reverse (a ∷ reverse (slice f e s))
 slice-push f e s a fe es =
-    rw (add-one e, take-suc-set s e a es, drop-append-le f (take e s) (a ∷ []) (omega (arith, length-take-le e s (omega arith))), reverse-cons, reverse-reverse)
+    let held = length-take-le e s (omega arith) in
+    rw (add-one e, take-suc-set s e a es, drop-append-le f (take e s) (a ∷ []) (omega arith), reverse-cons, reverse-reverse)

@@ -69,15 +69,15 @@ larger tie b j k e = record { low = ⊎-elim (λ h. absurd (never h)) (λ h. h) 
 
 -- ---- entries
 -- m is the left entry of k, of the indices from lo on: the largest below k that is taken before k, or 0 if none is
-pub record Left (o : Order) (lo k m : ℕ) : Type 0 where
+pub record IsLeft (o : Order) (lo k m : ℕ) : Type 0 where
   pub below : m < k
   pub from : 0 < m → lo ≤ m
   pub beats : 0 < m → o .Beats m k
   pub rest : (j : ℕ) → lo ≤ j → m < j → j < k → o .Beats k j
 
 -- The first index has no left entry.
-pub left-first : (o : Order) (k : ℕ) → 1 ≤ k → Left o k k 0
-left-first o k h = record {
+pub left-first : {o : Order} {k : ℕ} → 1 ≤ k → IsLeft o k k 0
+left-first h = record {
   below = h;
   from = λ p. absurd (omega arith);
   beats = λ p. absurd (omega arith);
@@ -85,7 +85,7 @@ left-first o k h = record {
 }
 
 -- m is the right entry of k: the smallest above k, up to the end e, that is taken before k
-pub record Right (o : Order) (e k m : ℕ) : Type 0 where
+pub record IsRight (o : Order) (e k m : ℕ) : Type 0 where
   pub above : k < m
   pub within : m ≤ e
   pub beats : o .Beats m k
@@ -99,12 +99,12 @@ pub record Linking (o : Order) (e i k : ℕ) (L : ℕ → ℕ) : Type 0 where
   pub within : k ≤ e
   pub passed : (j : ℕ) → i < j → j < k → o .Beats i j
   pub lowest : (j : ℕ) → i < j → j < k → o .Beats k j
-  pub done : (j : ℕ) → i < j → j < k → Left o i j (L j)
-  pub ahead : (j : ℕ) → k ≤ j → j ≤ e → Left o (suc i) j (L j)
+  pub done : (j : ℕ) → i < j → j < k → IsLeft o i j (L j)
+  pub ahead : (j : ℕ) → k ≤ j → j ≤ e → IsLeft o (suc i) j (L j)
 
-module _ (o : Order) (e i : ℕ) where
-  pub linking-first : (L : ℕ → ℕ) → i < e → ((j : ℕ) → i < j → j ≤ e → Left o (suc i) j (L j)) → Linking o e i (suc i) L
-  linking-first L h lefts = record {
+module _ {o : Order} {e i : ℕ} where
+  pub linking-first : {L : ℕ → ℕ} → i < e → ((j : ℕ) → i < j → j ≤ e → IsLeft o (suc i) j (L j)) → Linking o e i (suc i) L
+  linking-first h lefts = record {
     above = omega arith;
     within = h;
     passed = λ j p q. absurd (omega arith);
@@ -113,21 +113,22 @@ module _ (o : Order) (e i : ℕ) where
     ahead = λ j p q. lefts j p q;
   }
 
-  module _ (k : ℕ) (L : ℕ → ℕ) (at : Linking o e i k L) where
+  module _ {k : ℕ} {L : ℕ → ℕ} (at : Linking o e i k L) where
     -- An index that is linked had no left entry: each is linked once.
     pub unlinked : L k ≡ 0
     unlinked = ⊎-elim (λ h. omega arith) (λ h. absurd (taken h)) (split (L k) 0)
       where
-        own : Left o (suc i) k (L k)
+        own : IsLeft o (suc i) k (L k)
         own = at .ahead k (omega arith) (at .within)
 
         taken : ¬ (0 < L k)
         taken h = o .asym (L k) k (own .beats h) (at .lowest (L k) (own .from h) (own .below))
 
     -- Link k, and go on at its right entry m.
-    module _ (m : ℕ) (M : ℕ → ℕ) (beats : o .Beats i k) (right : Right o e k m) (same : M k ≡ i) (other : (j : ℕ) → j ≢ k → M j ≡ L j) where
+    module _ {m : ℕ} {M : ℕ → ℕ} (beats : o .Beats i k) (right : IsRight o e k m)
+        (same : M k ≡ i) (other : (j : ℕ) → j ≢ k → M j ≡ L j) where
       -- from an index between k and m on, i makes no difference
-      between : (j : ℕ) → k < j → j < m → Left o (suc i) j (L j) → Left o i j (L j)
+      between : (j : ℕ) → k < j → j < m → IsLeft o (suc i) j (L j) → IsLeft o i j (L j)
       between j p q left = record {
         below = left .below;
         from = λ h. omega (arith, left .from h);
@@ -138,7 +139,7 @@ module _ (o : Order) (e i : ℕ) where
           high : k ≤ L j
           high = ⊎-elim (λ h. h) (λ h. absurd (o .asym k j (right .rest j p q) (left .rest k (at .above) h p))) (split k (L j))
 
-      own : Left o i k i
+      own : IsLeft o i k i
       own = record {
         below = at .above;
         from = λ h. omega arith;
@@ -160,7 +161,7 @@ module _ (o : Order) (e i : ℕ) where
         passed = λ j p q. at-or-past (o .Beats i) j (λ h. at .passed j p h) beats (λ h. o .trans i k j beats (right .rest j h q));
         lowest = λ j p q. at-or-past (o .Beats m) j (λ h. o .trans m k j (right .beats) (at .lowest j p h)) (right .beats)
             (λ h. o .trans m k j (right .beats) (right .rest j h q));
-        done = λ j p q. at-or-past (λ (a : ℕ). Left o i a (M a)) j
+        done = λ j p q. at-or-past (λ (a : ℕ). IsLeft o i a (M a)) j
             (λ h. rw (other j (omega arith)) (at .done j p h))
             (rw same own)
             (λ h. rw (other j (omega arith)) (between j h q (at .ahead j (omega arith) (omega (arith, right .within)))));
@@ -169,18 +170,19 @@ module _ (o : Order) (e i : ℕ) where
 
     -- The k reached is taken before i: it is the right entry of i, and every left entry counts i.
     module _ (beats : o .Beats k i) where
-      pub linked-right : Right o e i k
+      pub linked-right : IsRight o e i k
       linked-right = record { above = at .above; within = at .within; beats = beats; rest = at .passed }
 
-      past : (j : ℕ) → k ≤ j → j ≤ e → Left o i j (L j)
+      past : (j : ℕ) → k ≤ j → j ≤ e → IsLeft o i j (L j)
       past j p q = record {
         below = left .below;
         from = λ h. omega (arith, left .from h);
         beats = left .beats;
-        rest = λ a f g h. ⊎-elim (λ n. subst (λ (z : ℕ). o .Beats j z) (omega arith) (own (omega arith))) (λ n. left .rest a n g h) (split a i);
+        rest = λ a f g h.
+            ⊎-elim (λ n. subst (λ (z : ℕ). o .Beats j z) (omega arith) (own (omega arith))) (λ n. left .rest a n g h) (split a i);
       }
         where
-          left : Left o (suc i) j (L j)
+          left : IsLeft o (suc i) j (L j)
           left = at .ahead j p q
 
           own : L j < i → o .Beats j i
@@ -189,71 +191,75 @@ module _ (o : Order) (e i : ℕ) where
               (λ h. o .trans j k i (left .rest k (at .above) (omega (arith, at .above)) h) beats)
               (split j k)
 
-      pub linked-left : (j : ℕ) → i < j → j ≤ e → Left o i j (L j)
+      pub linked-left : (j : ℕ) → i < j → j ≤ e → IsLeft o i j (L j)
       linked-left j p q = ⊎-elim (λ h. past j h q) (λ h. at .done j p h) (split k j)
 
 -- ---- the pointer
--- Gap grows as its ends part.
-pub record Growing (gap : ℕ → ℕ → ℕ) : Type 0 where
+-- Gap grows as its ends part, up to the end; and what the limits allow of it.
+pub record Gaps : Type 0 where
+  pub gap : ℕ → ℕ → ℕ
+  pub lmin : ℕ
+  pub lmax : ℕ
+  pub end : ℕ
   pub far : (i j k : ℕ) → j ≤ k → gap i j ≤ gap i k
   pub near : (h i j : ℕ) → h ≤ i → gap i j ≤ gap h j
 
 -- At start i the pointer stands at r: r is taken before every index past it that lmax allows; and if there is such an index,
 -- lmin allows r.
-abbrev pub Placed : Order → (ℕ → ℕ → ℕ) → ℕ → ℕ → ℕ → ℕ → ℕ → Type 0
-Placed o gap lmin lmax e i r = (j : ℕ) → r < j → j ≤ e → gap i j ≤ lmax → (lmin ≤ gap i r) × o .Beats r j
+pub record PointerPlaced (o : Order) (a : Gaps) (i r : ℕ) : Type 0 where
+  pub each : (j : ℕ) → r < j → j ≤ a .end → a .gap i j ≤ a .lmax → (a .lmin ≤ a .gap i r) × o .Beats r j
 
-module _ (o : Order) (gap : ℕ → ℕ → ℕ) (grows : Growing gap) (lmin lmax e : ℕ) where
-  abbrev At : ℕ → ℕ → Type 0
-  At i r = Placed o gap lmin lmax e i r
+-- What holds at r of an index j: the limits allow r, and r is taken before j.
+pub record TakenFirst (o : Order) (a : Gaps) (i r j : ℕ) : Type 0 where
+  pub wide : a .lmin ≤ a .gap i r
+  pub beats : j ≢ r → o .Beats r j
 
-  pub placed-first : (i : ℕ) → At i e
-  placed-first i j p q g = absurd (omega arith)
+module _ {o : Order} {a : Gaps} where
+  pub placed-first : {i : ℕ} → PointerPlaced o a i (a .end)
+  placed-first = record { each = λ j p q g. absurd (omega arith) }
 
-  pub placed-step : (i r : ℕ) → lmax < gap i (suc r) → At i r
-  placed-step i r over j p q g = absurd (omega (arith, grows .far i (suc r) j p))
+  pub placed-step : {i r : ℕ} → a .lmax < a .gap i (suc r) → PointerPlaced o a i r
+  placed-step {i} {r} over = record { each = λ j p q g. absurd (omega (arith, a .far i (suc r) j p)) }
 
-  pub placed-jump : (i r m : ℕ) → Left o (suc i) r m → 0 < m → lmin ≤ gap i m → At i r → At i m
-  placed-jump i r m left entry fits at j p q g = (
-    fits,
-    ⊎-elim
-        (λ h. o .trans m r j (left .beats entry) (at j h q g .1))
-        (λ h. ⊎-elim
-        (λ n. subst (o .Beats m) (omega arith) (left .beats entry))
-        (λ n. o .trans m r j (left .beats entry) (left .rest j (omega (arith, left .from entry)) p n))
-        (split r j))
-        (split (suc r) j),
-  )
-
-  pub placed-next : (h i r : ℕ) → h ≤ i → At i r → At h r
-  placed-next h i r le at j p q g =
-      let a = at j p q (omega (arith, grows .near h i j le)) in
-      (omega (arith, grows .near h i r le), a .1)
-
-  -- What holds at r of each index j that the limits allow, once r itself is at most lmax away and lmin forbids its left entry m:
-  -- the limits allow r, and r is taken before j.
-  pub record Chosen (i r j : ℕ) : Type 0 where
-    pub wide : lmin ≤ gap i r
-    pub beats : j ≢ r → o .Beats r j
-
-  pub placed-chosen : (i r m : ℕ) → Left o (suc i) r m → (0 < m → gap i m < lmin) → At i r → (j : ℕ) → i < j → j ≤ e →
-      lmin ≤ gap i j → gap i j ≤ lmax → Chosen i r j
-  placed-chosen i r m left short at j p q low high = record { wide = wide; beats = beats }
+  pub placed-jump : {i r m : ℕ} → IsLeft o (suc i) r m → 0 < m → a .lmin ≤ a .gap i m → PointerPlaced o a i r → PointerPlaced o a i m
+  placed-jump {i} {r} {m} left entry fits at = record { each = λ j p q g. (fits, beats j p q g) }
     where
-      wide : lmin ≤ gap i r
-      wide = ⊎-elim (λ h. at j h q high .0) (λ h. omega (arith, grows .far i j r (omega arith))) (split (suc r) j)
+      beats : (j : ℕ) → m < j → j ≤ a .end → a .gap i j ≤ a .lmax → o .Beats m j
+      beats j p q g =
+          ⊎-elim
+          (λ h. o .trans m r j (left .beats entry) (at .each j h q g .1))
+          (λ h. ⊎-elim
+          (λ n. subst (o .Beats m) (omega arith) (left .beats entry))
+          (λ n. o .trans m r j (left .beats entry) (left .rest j (omega (arith, left .from entry)) p n))
+          (split r j))
+          (split (suc r) j)
+
+  pub placed-next : {h i r : ℕ} → h ≤ i → PointerPlaced o a i r → PointerPlaced o a h r
+  placed-next {h} {i} {r} le at = record {
+    each = λ j p q g.
+        let b = at .each j p q (omega (arith, a .near h i j le)) in
+        (omega (arith, a .near h i r le), b .1);
+  }
+
+  -- Once r itself is at most lmax away and lmin forbids its left entry m, r is taken before each index that the limits allow.
+  pub placed-chosen : {i r m : ℕ} → IsLeft o (suc i) r m → (0 < m → a .gap i m < a .lmin) → PointerPlaced o a i r →
+      (j : ℕ) → i < j → j ≤ a .end → a .lmin ≤ a .gap i j → a .gap i j ≤ a .lmax → TakenFirst o a i r j
+  placed-chosen {i} {r} {m} left short at j p q low high = record { wide = wide; beats = beats }
+    where
+      wide : a .lmin ≤ a .gap i r
+      wide = ⊎-elim (λ h. at .each j h q high .0) (λ h. omega (arith, a .far i j r (omega arith))) (split (suc r) j)
 
       past : m < j
-      past = ⊎-elim (λ h. absurd (omega (arith, grows .far i j m h, short (omega arith)))) (λ h. h) (split j m)
+      past = ⊎-elim (λ h. absurd (omega (arith, a .far i j m h, short (omega arith)))) (λ h. h) (split j m)
 
       beats : j ≢ r → o .Beats r j
-      beats ne = ⊎-elim (λ h. at j h q high .1) (λ h. left .rest j p past (omega arith)) (split (suc r) j)
+      beats ne = ⊎-elim (λ h. at .each j h q high .1) (λ h. left .rest j p past (omega arith)) (split (suc r) j)
 
 -- ---- what is picked
 -- As 01 says it: the left entry is the largest index whose best is smaller, the right entry the smallest whose best is not larger.
 module _ (b : ℕ → Cost) where
-  pub left-picked : (lo k m : ℕ) → 1 ≤ lo → Left (cheaper largest b) lo k m → Picked largest (λ j. not (leq (b k) (b j))) lo (k - lo) m
-  left-picked lo k m pos left = ⊎-elim (λ h. inr (none-is (omega arith))) (λ h. inl (some-is h)) (split m 0)
+  pub left-picked : {lo k m : ℕ} → 1 ≤ lo → IsLeft (cheaper largest b) lo k m → Picked largest (λ j. not (leq (b k) (b j))) lo (k - lo) m
+  left-picked {lo} {k} {m} pos left = ⊎-elim (λ h. inr (none-is (omega arith))) (λ h. inl (some-is h)) (split m 0)
     where
       fails : (j : ℕ) → lo ≤ j → m < j → j < k → ¬ T (not (leq (b k) (b j)))
       fails j p q h t = T-not (leq (b k) (b j)) t (≼→leq (b k) (b j) (left .rest j p q h .low))
@@ -269,12 +275,13 @@ module _ (b : ℕ → Cost) where
         ahead = λ j p q t. ⊎-elim (λ g. g) (λ g. absurd (fails j p g (omega arith) t)) (split j m);
       }
 
-  pub right-picked : (e k m : ℕ) → Right (cheaper largest b) e k m → Picked smallest (λ j. leq (b j) (b k)) (k + 1) (e - k) m
-  right-picked e k m right = inl (record {
+  pub right-picked : {e k m : ℕ} → IsRight (cheaper largest b) e k m → Picked smallest (λ j. leq (b j) (b k)) (k + 1) (e - k) m
+  right-picked {e} {k} {m} right = inl (record {
     from = omega (arith, right .above);
     below = omega (arith, right .within, right .above);
     passes = ≼→leq (b m) (b k) (right .beats .low);
-    ahead = λ j p q t. ⊎-elim (λ g. g) (λ g. absurd (right .rest j (omega arith) g .strict (omega arith) (leq→≼ (b j) (b k) t))) (split m j);
+    ahead = λ j p q t.
+        ⊎-elim (λ g. g) (λ g. absurd (right .rest j (omega arith) g .strict (omega arith) (leq→≼ (b j) (b k) t))) (split m j);
   })
 
 -- ---- what is chosen
@@ -287,7 +294,8 @@ module _ (p : Problem) (i : ℕ) (early : i < p .end) where
   reached r none ch e = tt
   reached r (some v) ch e = (r, ch, e)
 
-  pub cheaper-next : (tie : Tie) (r : ℕ) → Choice p i r → Has (via r) → ((j : ℕ) → Choice p i j → j ≢ r → Cheaper tie via r j) → Next p tie i r
+  pub cheaper-next : (tie : Tie) (r : ℕ) → Choice p i r → Has (via r) → ((j : ℕ) → Choice p i j → j ≢ r → Cheaper tie via r j) →
+      Next p tie i r
   cheaper-next tie r choice has beats = record {
     has = subst Has gives has;
     choice = choice;
@@ -302,10 +310,13 @@ module _ (p : Problem) (i : ℕ) (early : i < p .end) where
   }
     where
       low : (j : ℕ) → Choice p i j → via r ≼ via j
-      low j ch = ⊎-elim (λ same. subst (λ (z : ℕ). via r ≼ via z) (sym same) (≼-refl (via r))) (λ other. beats j ch other .low) (same? j r)
+      low j ch =
+          ⊎-elim (λ same. subst (λ (z : ℕ). via r ≼ via z) (sym same) (≼-refl (via r))) (λ other. beats j ch other .low) (same? j r)
 
       gives : via r ≡ best p i
-      gives = least-unique (Choice p i) via (via r) (best p i) (record { low = low; reached = reached r (via r) choice refl }) (best-steps p i early)
+      gives =
+          least-unique (Choice p i) via (via r) (best p i) (record { low = low; reached = reached r (via r) choice refl })
+          (best-steps p i early)
 
   -- Where no choice has a best, the start has none.
   pub no-next : ((j : ℕ) → Choice p i j → best p j ≡ none) → best p i ≡ none

@@ -90,7 +90,8 @@ module _ {A : Type 0} where
 
     pub onward-onward : (ys : List A) (k : ℕ) → k ≡ c + length xs → onward k ys (onward c xs s) ≡ onward c (xs ++ ys) s
     unfolding onward
-    onward-onward ys k e = over-onward (take c s ++ xs) ys s k (e ∙ sym place) ∙ ap (λ (l : List A). over l s) (append-assoc (take c s) xs ys)
+    onward-onward ys k e =
+        over-onward (take c s ++ xs) ys s k (e ∙ sym place) ∙ ap (λ (l : List A). over l s) (append-assoc (take c s) xs ys)
 
     -- one more entry
     pub onward-set : (a : A) (k : ℕ) → k ≡ c + length xs → k < length s → set (onward c xs s) k a ≡ onward c (xs ++ (a ∷ [])) s

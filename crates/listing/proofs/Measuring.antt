@@ -64,7 +64,7 @@ module _ {l : Limits} {ws S : List ℕ} {i j : ℕ} (a : LineAsks l ws S i j) wh
       paid-inside =
           let n = length-is in
           let r = ranges l (a .text .passed .limits) in
-          (r, omega (arith, line-high (a .part), r .lmax-high))
+          (r, omega (arith, line-high (a .segment), r .lmax-high))
 
       pub paid-is : {p : ℕ} → p ≡ penalty l x → LineIs l ws i j (record { length = y; cost = p })
       paid-is e = record {

@@ -11,8 +11,9 @@ use Rattle.paper.specs.Allowed.{pageLimitsHold}
 use Rattle.paper.specs.Index as Index
 use Rattle.paper.specs.Moves.{Taken, joined}
 use Rattle.paper.specs.PointerRules.{pagesOf, Pointing, atStart, afterStarts, pointerMoves}
-use Rattle.pointer_theory.specs.Ready.{Ready, ready}
-use Rattle.pointer_theory.specs.Entries.{left-right, right-right}
+use Rattle.paper.specs.Strips.{entries}
+use Rattle.pointer_theory.specs.Ready.{PointerReady, ready-at}
+use Rattle.pointer_theory.specs.Entries.{left-is, right-is}
 use Rattle.pointer_theory.specs.Count.{starts-count}
 use Rattle.strips.specs.declared.Reached.{Reached}
 use Rattle.strips.specs.Filling.{Entered, entered-first, entered-more, entered-all, entered-whole}
@@ -39,18 +40,16 @@ pub record Paging (l : PageLimits) (S m : List ℕ) (t : PointerStrips) (i r cou
 -- the next start is ready, and each strip is as long as the entries used
 module _ (l : PageLimits) {S m : List ℕ} (t : PointerStrips) {i r count : ℕ} (held : Holds (pageLimitsHold l) S) (low : i ≤ length S)
     (ran : Ran (soFar l (wordsOf S) i) 0 m (t .moves) count (pointing r t)) where
-  ready-next : Ready l (wordsOf S) (i - 1) (pointing r t)
+  ready-next : PointerReady l (wordsOf S) (i - 1) (pointing r t)
   ready-next =
-      let n : ℕ = length (wordsOf S) in
       let size = holds-length (pageLimitsHold l) S held in
-      let z : n - (n + 1 - i) ≡ i - 1 = omega arith in
-      subst (Ready l (wordsOf S) (i - 1)) (ran .stands)
-      (subst (λ (k : ℕ). Ready l (wordsOf S) k (soFar l (wordsOf S) i .stands)) z (ready l (wordsOf S) (n + 1 - i)))
+      subst (PointerReady l (wordsOf S) (i - 1)) (ran .stands)
+      (ready-at l (wordsOf S) (length (wordsOf S) + 1 - i) (i - 1) (omega arith))
 
   sizes : PageBests l (wordsOf S) (t .best) i → Entered (Index.chosenNext l (wordsOf S)) 0 (length (wordsOf S)) i (t .next) → PageSized S t
   sizes bests nexts =
       let size = holds-length (pageLimitsHold l) S held in
-      let next = ready-next in
+      let next = ready-next .entries in
       record { best = omega (arith, bests-size bests); next = omega (arith, nexts .size); left = omega arith; right = omega arith }
 
 -- ---- before the first
@@ -124,6 +123,10 @@ module _ {l : PageLimits} {S m : List ℕ} {t : PointerStrips} {i r count : ℕ}
     pub paging-began : count ≤ length (t .moves)
     paging-began = omega (arith, room)
 
+    -- the moves strip as it comes back, with ms from the present count on
+    abbrev whole : List ℕ → List ℕ
+    whole ms = putMid count (length (t .moves) - count) (t .moves) ms
+
     -- the start is lent the moves strip from the present count on
     abbrev lent : PointerStrips
     lent = pointerStrips (t .best) (t .next) (t .left) (t .right) (take (length (t .moves) - count) (drop count (t .moves)))
@@ -145,16 +148,14 @@ module _ {l : PageLimits} {S m : List ℕ} {t : PointerStrips} {i r count : ℕ}
       paging-fits = omega (arith, room, d .ran .count, paging-length)
 
       pub paging-next :
-          Paging l S m (pointerStrips (u .best) (u .next) (u .left) (u .right) (putMid count (length (t .moves) - count) (t .moves) (u .moves)))
-          (i - 1) (p .at) (count + p .moves)
+          Paging l S m (pointerStrips (u .best) (u .next) (u .left) (u .right) (whole (u .moves))) (i - 1) (p .at) (count + p .moves)
       paging-next =
-          let whole = putMid count (length (t .moves) - count) (t .moves) (u .moves) in
-          let next = pointerStrips (u .best) (u .next) (u .left) (u .right) whole in
+          let next = pointerStrips (u .best) (u .next) (u .left) (u .right) (whole (u .moves)) in
           let ran = ran-lent (then (pointing r t)) count (t .moves) (u .moves) (p .moves) (pointing (p .at) u) paging-began (d .ran) in
-          let all : Ran (soFar l ws (i - 1)) 0 m whole (count + p .moves) (pointing (p .at) u) =
+          let all : Ran (soFar l ws (i - 1)) 0 m (whole (u .moves)) (count + p .moves) (pointing (p .at) u) =
           rw turn
-          (joined-ran (soFar l ws i) then 0 m (t .moves) count (pointing r t) (g .ran) whole (count + p .moves) (pointing (p .at) u)
-          (omega arith) ran) in
+          (joined-ran (soFar l ws i) then 0 m (t .moves) count (pointing r t) (g .ran) (whole (u .moves)) (count + p .moves)
+          (pointing (p .at) u) (omega arith) ran) in
           let low : i - 1 ≤ length ws = omega (arith, g .low, size) in
           let bests = bests-more (g .bests) (i - 1) (u .best) (omega arith) low (d .best) in
           let nexts = entered-more (g .nexts) (i - 1) (i - 1) (u .next) (omega arith) low (omega arith) (d .next) in
@@ -176,12 +177,12 @@ module _ {l : PageLimits} {S m : List ℕ} {t : PointerStrips} {i r count : ℕ}
       let y : length ws + 1 - i ≡ length ws + 1 = omega arith in
       let ran = rw y at (g .ran) in
       let bests = rw z at (g .bests .entered) in
-      let count : length ws + 1 + 1 ≡ length ws + 2 = omega arith in
+      let k : length ws + 1 + 1 ≡ length ws + 2 = omega arith in
       record {
-        best = entered-whole (best-end l ws) bests (length ws + 1) (omega arith) ∙ ap (Rattle.paper.specs.Strips.entries (bestAt l ws) 0) count;
+        best = entered-whole (best-end l ws) bests (length ws + 1) (omega arith) ∙ ap (entries (bestAt l ws) 0) k;
         next = entered-all (rw z at (g .nexts)) (length ws + 1) (omega arith);
-        left = ap (λ (s : Pointing). s .left) (sym (ran .stands)) ∙ left-right l ws;
-        right = ap (λ (s : Pointing). s .right) (sym (ran .stands)) ∙ right-right l ws;
+        left = ap (λ (s : Pointing). s .left) (sym (ran .stands)) ∙ left-is l ws;
+        right = ap (λ (s : Pointing). s .right) (sym (ran .stands)) ∙ right-is l ws;
         moves = ran .moves ∙ onward-zero _ m;
         count = omega (arith, ran .count);
       }

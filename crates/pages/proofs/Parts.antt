@@ -24,7 +24,8 @@ module _ {l : PageLimits} {ws S₀ S : List ℕ} {s : PointerStrips} (a : PageFi
   abbrev used : List ℕ → List ℕ
   used = take (length ws + 2)
 
-  pub fill-starts : PageStartsAsk l (take (length ws + 1) S) (pointerStrips (used (s .best)) (used (s .next)) (used (s .left)) (used (s .right)) (s .moves))
+  pub fill-starts : PageStartsAsk l (take (length ws + 1) S)
+      (pointerStrips (used (s .best)) (used (s .next)) (used (s .left)) (used (s .right)) (s .moves))
   fill-starts =
       let size = length-sums ws in
       rw (sums-front ws S₀ S filled)
@@ -45,17 +46,19 @@ module _ {l : PageLimits} {ws S₀ S : List ℕ} {s : PointerStrips} (a : PageFi
 
   pub fill-done : {taken : ℕ} {t : PointerStrips} → PageStarts l (wordsOf (take (length ws + 1) S)) (s .moves) taken t →
       PageFilled l ws S₀ s taken S
-      (pointerStrips (back (t .best) (s .best)) (back (t .next) (s .next)) (back (t .left) (s .left)) (back (t .right) (s .right)) (t .moves))
+      (pointerStrips (back (t .best) (s .best)) (back (t .next) (s .next)) (back (t .left) (s .left)) (back (t .right) (s .right))
+      (t .moves))
   fill-done {t = t} d =
       let f : wordsOf (take (length ws + 1) S) ≡ ws = ap wordsOf (sums-front ws S₀ S filled) ∙ words-of-sums ws in
       let d = rw f at d in
       let k : ℕ = length ws + 2 in
+      let nexts = length-ended (Index.chosenNext l ws) 0 (length ws + 1) in
       let lefts = length-entries (leftEntry (Index.best l ws)) 1 (length ws + 1) in
       let rights = length-ended (rightEntry (Index.best l ws) (length ws)) 1 (length ws) in
       record {
         sums = filled;
         best = over-back (bestsOf l ws) (t .best) (s .best) k (d .best) (length-entries _ 0 k);
-        next = over-back (nextsOf l ws) (t .next) (s .next) k (d .next) (omega (arith, length-ended (Index.chosenNext l ws) 0 (length ws + 1)));
+        next = over-back (nextsOf l ws) (t .next) (s .next) k (d .next) (omega arith);
         left = over-back (leftsOf l ws) (t .left) (s .left) k (d .left) (omega arith);
         right = over-back (rightsOf l ws) (t .right) (s .right) k (d .right) (omega arith);
         moves = d .moves;

@@ -1,7 +1,7 @@
 -- What the functions of the index engine ask of their callers, and what each leaves. Assumes nothing.
 use Prim.Native.Nat.{ℕ, _+_, _*_, _≤_}
 use mathlib.Core.Path.{_≡_}
-use mathlib.Core.List.{List, [], _∷_, _++_, map}
+use mathlib.Core.List.{List, _∷_, map}
 use lib.ListN.{length}
 use Rattle.laws.specs.Strip.{over}
 use Rattle.paper.specs.declared.PageLimits.{PageLimits}

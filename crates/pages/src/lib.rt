@@ -56,8 +56,10 @@ fn fill(
 ) -> usize
     requires { ⌜ PageFillAsk l (now lengths) (now sums) (pointerStrips (now best) (now next) (now left) (now right) (now moves)) ⌝ }
     ensures { λ r. ⌜ PageFilled l (now (lengths .entry))
-        (now (sums .entry)) (pointerStrips (now (best .entry)) (now (next .entry)) (now (left .entry)) (now (right .entry)) (now (moves .entry)))
-        r (now (sums .exit)) (pointerStrips (now (best .exit)) (now (next .exit)) (now (left .exit)) (now (right .exit)) (now (moves .exit))) ⌝ }
+        (now (sums .entry))
+        (pointerStrips (now (best .entry)) (now (next .entry)) (now (left .entry)) (now (right .entry)) (now (moves .entry)))
+        r (now (sums .exit))
+        (pointerStrips (now (best .exit)) (now (next .exit)) (now (left .exit)) (now (right .exit)) (now (moves .exit))) ⌝ }
 {
     let n = lengths.len();
     fill_sums(lengths, sums);
@@ -84,10 +86,14 @@ pub fn page(
     moves: &mut [u32],
     boundaries: &mut [u32],
 ) -> Answer
-    requires { ⌜ PageAsk l (now lengths) (indexStrips (now sums) (now best) (now next) (now left) (now right) (now moves) (now boundaries)) ⌝ }
+    requires { ⌜ PageAsk l (now lengths)
+        (indexStrips (now sums) (now best) (now next) (now left) (now right) (now moves) (now boundaries)) ⌝ }
     ensures { λ r. ⌜ Paged l (now (lengths .entry))
-        (indexStrips (now (sums .entry)) (now (best .entry)) (now (next .entry)) (now (left .entry)) (now (right .entry)) (now (moves .entry)) (now (boundaries .entry)))
-        r (indexStrips (now (sums .exit)) (now (best .exit)) (now (next .exit)) (now (left .exit)) (now (right .exit)) (now (moves .exit)) (now (boundaries .exit))) ⌝ }
+        (indexStrips (now (sums .entry)) (now (best .entry)) (now (next .entry)) (now (left .entry)) (now (right .entry))
+        (now (moves .entry)) (now (boundaries .entry)))
+        r
+        (indexStrips (now (sums .exit)) (now (best .exit)) (now (next .exit)) (now (left .exit)) (now (right .exit))
+        (now (moves .exit)) (now (boundaries .exit))) ⌝ }
 {
     let taken = fill(l, lengths, sums, best, next, left, right, moves);
     let total = best[0];

@@ -1,5 +1,5 @@
 -- Laws of the entries of a strip. Assumes nothing.
-use Prim.Native.Nat.{ℕ, zero, suc, _+_, _≤_, _<_}
+use Prim.Native.Nat.{ℕ, zero, suc, _+_, _<_}
 use mathlib.Core.Path.{_≡_, refl, ap, _∙_}
 use mathlib.Core.List.{List, [], _∷_, _++_}
 use native.Mathlib.Omega.{arith}
@@ -24,11 +24,3 @@ module _ {A : Type 0} (f : ℕ → A) where
   getD-entries k zero i a h = absurd (omega arith)
   getD-entries k (suc d) zero a h = ap f (omega arith)
   getD-entries k (suc d) (suc i) a h = getD-entries (suc k) d i a (omega arith) ∙ ap f (omega arith)
-
--- entries of functions that agree on the range
-pub entries-same : {A : Type 0} (f g : ℕ → A) (k d : ℕ) → ((i : ℕ) → k ≤ i → i < k + d → f i ≡ g i) → entries f k d ≡ entries g k d
-unfolding entries
-entries-same f g k zero h = refl
-entries-same f g k (suc d) h =
-    let e : f k ≡ g k = h k (omega arith) (omega arith) in
-    rw (e, entries-same f g (suc k) d (λ i p q. h i (omega arith) (omega arith)))

@@ -42,9 +42,6 @@ pub gap-scale : (ws : List ℕ) (a b : ℕ) → a < b → upTo ws a + gap ws a b
 unfolding gap
 gap-scale ws a b h = part ws a (b - a - 1) ∙ ap (upTo ws) (omega arith)
 
-pub gap-is : (ws : List ℕ) (a b : ℕ) → a < b → gap ws a b ≡ upTo ws (b - 1) - upTo ws a
-gap-is ws a b h = omega (arith, gap-scale ws a b h)
-
 -- one word more
 pub upTo-suc : (ws : List ℕ) (k : ℕ) → k < length ws → upTo ws (suc k) ≡ upTo ws k + getD ws k 0
 unfolding upTo sum

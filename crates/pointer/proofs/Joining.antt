@@ -9,14 +9,14 @@ use Rattle.laws.specs.Cost.{leq}
 use Rattle.laws.specs.Strip.{onward-nil, append-nil}
 use Rattle.paper.specs.declared.PageLimits.{PageLimits}
 use Rattle.paper.specs.declared.Kind.the-variants.{Link}
-use Rattle.paper.specs.Index as Index
-use Rattle.paper.specs.Moves.{Taken, code, move, moved}
+use Rattle.paper.specs.Moves.{Taken, code, move, moved, still}
 use Rattle.paper.specs.PointerRules.{pagesOf, entryAt, Linked, links, linked}
 use Rattle.pointer_theory.specs.Numbers.{best-larger, best-not-larger}
+use Rattle.pointer_theory.specs.Ready.{links-end}
 use Rattle.pointer_theory.specs.Turns.{links-early, links-enough, links-more, links-stop}
 use Rattle.strips.specs.declared.Reached.{Reached}
 use Rattle.strips.specs.Running.{Running, running-first, running-same, running-more, running-place, running-done, running-length}
-use Rattle.pointer.specs.Held.{PageBests, bests-size, bests-at}
+use Rattle.pointer.specs.Held.{bestAt, PageBests, bests-size, bests-at}
 use Rattle.pointer.specs.Asks.{LinkStrips, linkStrips, LinksAsk, LinksCame, JoinCame}
 
 -- the linking of start i
@@ -33,65 +33,86 @@ pub record Joining (i : ℕ) (B : List ℕ) (s : LinkStrips) (c : ℕ) (left m :
   pub size : length left ≡ length (s .left)
   pub run : (l : PageLimits) (ws : List ℕ) → PageBests l ws B i → Running (whole l ws i s) (rest l ws i s k left) c (s .moves) m taken
 
-module _ {i own : ℕ} {B : List ℕ} {s : LinkStrips} {c : ℕ} (a : LinksAsk i own B s c) where
-  -- right entries are larger than their index, in each text whose bests the strip holds
-  rises : (l : PageLimits) (ws : List ℕ) → PageBests l ws B i → (k : ℕ) → i < k → k ≤ length ws →
-      (k < entryAt (s .right) k) × (entryAt (s .right) k ≤ length ws + 1)
-  rises l ws b k h g =
+-- ---- in a text whose bests the strip holds
+module _ {i own : ℕ} {B : List ℕ} {s : LinkStrips} {c : ℕ} (a : LinksAsk i own B s c)
+    {l : PageLimits} {ws : List ℕ} (b : PageBests l ws B i) where
+  -- right entries are larger than their index, up to the end, where the linking ends
+  rises : (k : ℕ) → i < k → k ≤ length ws → (k < entryAt (s .right) k) × (entryAt (s .right) k ≤ length ws + 1)
+  rises k h g =
       let size = bests-size b in
       let r = a .rises k h (omega arith) in
       (r .0, omega arith)
 
-  pub joining-first : Joining i B s c (s .left) (s .moves) (i + 1) c
-  joining-first =
-      let e : i + 1 ≡ suc i = omega arith in
-      let held = bests-size (a .bests) in
-      rw e
-      (record {
-        above = omega arith;
-        within = omega (arith, a .low);
-        size = refl;
-        run = λ l ws b.
-            let low : i ≤ length ws = omega (arith, a .low, bests-size b) in
-            running-same (whole l ws i s) c (s .moves) (s .moves) c
-            (links-enough l ws i (s .right) (rises l ws b) (length ws) (length ws + 1 - suc i) (suc i) (s .left)
-            (omega arith) (omega arith) (omega arith) (omega arith))
-            (running-first (whole l ws i s) c (s .moves) (omega (arith, a .enough)));
-      })
+  ends : leq (pagesOf l ws .best (length ws + 1)) (pagesOf l ws .best i) ≡ true
+  unfolding pagesOf
+  ends = links-end l ws i
+
+  run-first : Running (whole l ws i s) (rest l ws i s (suc i) (s .left)) c (s .moves) (s .moves) c
+  run-first =
+      let low : i ≤ length ws = omega (arith, a .low, bests-size (a .bests), bests-size b) in
+      running-same (whole l ws i s) c (s .moves) (s .moves) c
+      (links-enough (pagesOf l ws) i (s .right) (length ws) ends rises (length ws) (length ws + 1 - suc i) (suc i) (s .left)
+      (omega arith) (omega arith) (omega arith) (omega arith))
+      (running-first (whole l ws i s) c (s .moves) (omega (arith, a .enough)))
 
   module _ {left m : List ℕ} {k taken : ℕ} (j : Joining i B s c left m k taken) where
-    high : (l : PageLimits) (ws : List ℕ) → PageBests l ws B i → k ≤ length ws + 1
-    high l ws b = omega (arith, bests-size b, j .within)
+    high : k ≤ length ws + 1
+    high = omega (arith, bests-size b, j .within)
 
-    pub joining-length : length m ≡ length (s .moves)
-    joining-length = running-length (whole (a .limits) (a .words) i s) c (s .moves) m taken (j .run (a .limits) (a .words) (a .bests))
+    best-k : getD B k 0 ≡ bestAt l ws k
+    best-k = bests-at b k (omega (arith, j .above)) high
+
+    best-i : own ≡ bestAt l ws i
+    best-i = a .is ∙ bests-at b i (omega arith) (omega (arith, j .above, high))
 
     -- "best k > best i"
     module _ (more : own < getD B k 0) where
-      larger : (l : PageLimits) (ws : List ℕ) → PageBests l ws B i → leq (Index.best l ws k) (Index.best l ws i) ≡ false
-      larger l ws b =
-          best-larger l ws (b .passed) k i (high l ws b)
-          (omega (arith, a .is, bests-at b k (omega (arith, j .above)) (high l ws b), bests-at b i (omega arith) (omega (arith, j .above, high l ws b))))
+      larger : leq (pagesOf l ws .best k) (pagesOf l ws .best i) ≡ false
+      unfolding pagesOf
+      larger = best-larger l ws (b .passed) k i high (omega (arith, best-k, best-i))
 
       -- the end is not linked
-      pub join-early : k + 1 < length B
-      join-early =
-          let l = a .limits in
-          let ws = a .words in
-          let b = a .bests in
-          omega (arith, bests-size b, links-early l ws i (s .right) (rises l ws b) k (high l ws b) (larger l ws b))
+      early : k ≤ length ws
+      early = links-early (pagesOf l ws) i (s .right) (length ws) ends rises k high larger
 
-      turn : (l : PageLimits) (ws : List ℕ) (b : PageBests l ws B i) →
-          Running (whole l ws i s) (moved (move Link k) (rest l ws i s (entryAt (s .right) k) (set left k i))) c (s .moves) m taken
-      turn l ws b =
+      run-turn : Running (whole l ws i s) (moved (move Link k) (rest l ws i s (entryAt (s .right) k) (set left k i))) c (s .moves) m taken
+      run-turn =
           running-same (whole l ws i s) c (s .moves) m taken
-          (links-more l ws i (s .right) (rises l ws b) k left (j .above) (high l ws b) (larger l ws b))
+          (links-more (pagesOf l ws) i (s .right) (length ws) ends rises k left (j .above) high larger)
           (j .run l ws b)
+
+    run-stop : getD B k 0 ≤ own → Running (whole l ws i s) (still (record { reached = k; left = left })) c (s .moves) m taken
+    unfolding pagesOf
+    run-stop le =
+        running-same (whole l ws i s) c (s .moves) m taken
+        (links-stop (pagesOf l ws) i (s .right) (length ws + 1 - k) k left
+        (best-not-larger l ws (b .passed) k i (omega (arith, j .above, high)) (omega (arith, best-k, best-i))))
+        (j .run l ws b)
+
+-- ---- in each such text
+module _ {i own : ℕ} {B : List ℕ} {s : LinkStrips} {c : ℕ} (a : LinksAsk i own B s c) where
+  pub joining-first : Joining i B s c (s .left) (s .moves) (i + 1) c
+  joining-first =
+      let e : i + 1 ≡ suc i = omega arith in
+      rw e
+      (record {
+        above = omega arith;
+        within = omega (arith, a .low, bests-size (a .bests));
+        size = refl;
+        run = λ l ws b. run-first a b;
+      })
+
+  module _ {left m : List ℕ} {k taken : ℕ} (j : Joining i B s c left m k taken) where
+    pub joining-length : length m ≡ length (s .moves)
+    joining-length = running-length (whole (a .limits) (a .words) i s) c (s .moves) m taken (j .run (a .limits) (a .words) (a .bests))
+
+    module _ (more : own < getD B k 0) where
+      pub join-early : k + 1 < length B
+      join-early = omega (arith, bests-size (a .bests), early a (a .bests) j more)
 
       pub join-place : taken < length (s .moves)
       join-place =
-          running-place (whole (a .limits) (a .words) i s) c (s .moves) m taken (move Link k) (turn (a .limits) (a .words) (a .bests))
-          (a .enough)
+          running-place (whole (a .limits) (a .words) i s) c (s .moves) m taken (move Link k) (run-turn a (a .bests) j more) (a .enough)
 
       pub join-on : {q : ℕ} {n : List ℕ} → q ≡ entryAt (s .right) k → n ≡ set m taken (code (move Link k)) →
           Joining i B s c (set left k i) n q (taken + 1)
@@ -102,20 +123,12 @@ module _ {i own : ℕ} {B : List ℕ} {s : LinkStrips} {c : ℕ} (a : LinksAsk i
             above = omega (arith, j .above);
             within = r .1;
             size = length-set left k i ∙ j .size;
-            run = λ l ws b. running-more (whole l ws i s) c (s .moves) m taken (move Link k) (turn l ws b) join-place;
+            run = λ l ws b. running-more (whole l ws i s) c (s .moves) m taken (move Link k) (run-turn a b j more) join-place;
           })
 
     pub join-stop : getD B k 0 ≤ own → LinksCame i B s c (record { at = k; moves = taken }) left m
     join-stop le = record {
-      ran = λ l ws b.
-          let low : i ≤ length ws + 1 = omega (arith, j .above, high l ws b) in
-          let stops : leq (Index.best l ws k) (Index.best l ws i) ≡ true =
-          best-not-larger l ws (b .passed) k i low
-          (omega (arith, a .is, bests-at b k (omega (arith, j .above)) (high l ws b), bests-at b i (omega arith) low)) in
-          running-done (whole l ws i s) c (s .moves) m taken (record { reached = k; left = left })
-          (running-same (whole l ws i s) c (s .moves) m taken
-          (links-stop l ws i (s .right) (length ws + 1 - k) k left stops)
-          (j .run l ws b));
+      ran = λ l ws b. running-done (whole l ws i s) c (s .moves) m taken (record { reached = k; left = left }) (run-stop a b j le);
       within = j .within;
     }
 

@@ -1,6 +1,6 @@
 -- One turn of the loops that lower the pointer: steps and jumps, in the values that the code has at hand. Assumes nothing.
 use Prim.Native.Nat.{ℕ, _+_, _-_, _≤_, _<_}
-use mathlib.Core.Path.{_≡_, ap, sym, _∙_}
+use mathlib.Core.Path.{_≡_}
 use mathlib.Core.List.{List}
 use native.Mathlib.Omega.{arith}
 use lib.ListN.{length, getD, set}
@@ -9,7 +9,7 @@ use Rattle.paper.specs.declared.Move.{Move}
 use Rattle.paper.specs.declared.Kind.the-variants.{Step, Jump}
 use Rattle.paper.specs.Index.{gap}
 use Rattle.paper.specs.Moves.{Taken, code, move, moved, still}
-use Rattle.paper.specs.PointerRules.{entryAt, steps, jumps}
+use Rattle.paper.specs.PointerRules.{pagesOf, entryAt, steps, jumps}
 use Rattle.pointer_theory.specs.Turns.{steps-more, steps-stop, jumps-more, jumps-stop}
 use Rattle.pointer_theory.specs.Ready.{step-above}
 use Rattle.strips.specs.Running.{Running, Ran, running-first, running-same, running-more, running-place, running-done, running-length}
@@ -65,7 +65,8 @@ module _ {l : PageLimits} {i : ℕ} {S : List ℕ} {r₀ c : ℕ} {m₀ m : List
 
   module _ (over : far < getD S (r - 1) 0) where
     step-turn : stepping l i S r ≡ moved (move Step (r - 1)) (stepping l i S (r - 1))
-    step-turn = steps-more l (wordsOf S) i r (omega (arith, lo .above)) (omega (arith, page-read step-page))
+    unfolding pagesOf
+    step-turn = steps-more (pagesIn l S) i r (omega (arith, lo .above)) (omega (arith, page-read step-page))
 
     pub step-place : taken < length m₀
     step-place = lowering-place lo (move Step (r - 1)) (r - 1) step-turn (a .enough)
@@ -76,7 +77,8 @@ module _ {l : PageLimits} {i : ℕ} {S : List ℕ} {r₀ c : ℕ} {m₀ m : List
         (step-above l (wordsOf S) i r (lo .above) (omega (arith, page-read step-page))) (omega (arith, lo .above)) n
 
   pub step-stop : getD S (r - 1) 0 ≤ far → Ran (stepping l i S r₀) c m₀ m taken r
-  step-stop short = lowering-done lo (steps-stop l (wordsOf S) i r (omega (arith, page-read step-page)))
+  unfolding pagesOf
+  step-stop short = lowering-done lo (steps-stop (pagesIn l S) i r (λ pos. omega (arith, page-read step-page)))
 
 -- ---- jumps
 -- one turn takes r to its left entry
@@ -91,7 +93,7 @@ module _ {l : PageLimits} {i : ℕ} {S left : List ℕ} {r₀ c : ℕ} {m₀ m :
   -- w is the left entry of r
   module _ {w : ℕ} (entry : w ≡ entryAt left r) where
     pub jump-none : w ≡ 0 → Ran (jumping l i S left r₀) c m₀ m taken r
-    jump-none none = lowering-done lo (jumps-stop l (wordsOf S) i left r r (λ h. absurd (omega arith)))
+    jump-none none = lowering-done lo (jumps-stop (pagesIn l S) i left r r (λ h. absurd (omega arith)))
 
     -- it is lower, and after start i
     module _ (has : ¬ (w ≡ 0)) where
@@ -106,18 +108,21 @@ module _ {l : PageLimits} {i : ℕ} {S left : List ℕ} {r₀ c : ℕ} {m₀ m :
       }
 
       pub jump-near : getD S (w - 1) 0 < near → Ran (jumping l i S left r₀) c m₀ m taken r
+      unfolding pagesOf
       jump-near short =
           let under : gap (wordsOf S) i w < l .lmin = omega (arith, page-read jump-page) in
-          lowering-done lo (jumps-stop l (wordsOf S) i left r r (λ h. rw entry at under))
+          lowering-done lo (jumps-stop (pagesIn l S) i left r r (λ h. rw entry at under))
 
       module _ (allowed : near ≤ getD S (w - 1) 0) where
         jump-turn : jumping l i S left r ≡ moved (move Jump w) (jumping l i S left w)
+        unfolding pagesOf
         jump-turn =
             let wide : l .lmin ≤ gap (wordsOf S) i w = omega (arith, page-read jump-page) in
-            rw entry (jumps-more l (wordsOf S) i left (a .falls) r (omega arith) (rw entry at wide))
+            rw entry (jumps-more (pagesIn l S) i left (a .falls) r (omega arith) (rw entry at wide))
 
         pub jump-place : taken < length m₀
         jump-place = lowering-place lo (move Jump w) w jump-turn (a .steps .enough)
 
-        pub jump-on : {n : List ℕ} → n ≡ set m taken (code (move Jump (entryAt left r))) → Lowering (jumping l i S left) i r₀ c m₀ n w (taken + 1)
+        pub jump-on : {n : List ℕ} → n ≡ set m taken (code (move Jump (entryAt left r))) →
+            Lowering (jumping l i S left) i r₀ c m₀ n w (taken + 1)
         jump-on {n} put = lowering-more lo (move Jump w) w jump-turn (a .steps .enough) (jump-page .above) jump-below n (rw entry put)

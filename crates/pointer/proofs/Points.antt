@@ -13,9 +13,11 @@ use Rattle.pointer.specs.Asks.{pagesIn, StepsAsk, JumpsAsk}
 use Rattle.pointer.proofs.Lowers.{stepping, jumping}
 
 -- the steps stay above the start
-steps-between : (l : PageLimits) (ws : List ℕ) (i r : ℕ) → i < r → (i < steps (pagesOf l ws) i r .stands) × (steps (pagesOf l ws) i r .stands ≤ r)
+steps-between : (l : PageLimits) (ws : List ℕ) (i r : ℕ) → i < r →
+    (i < steps (pagesOf l ws) i r .stands) × (steps (pagesOf l ws) i r .stands ≤ r)
+unfolding pagesOf
 steps-between l ws i =
-    steps-by l ws i (λ r t. i < r → (i < t .stands) × (t .stands ≤ r))
+    steps-by (pagesOf l ws) i (λ r t. i < r → (i < t .stands) × (t .stands ≤ r))
     (λ r h above. (above, omega arith))
     (λ r t h rest above. let b = rest (omega (arith, step-above l ws i (suc r) above h)) in (b .0, omega (arith, b .1)))
 

@@ -47,7 +47,7 @@ module _ {l : PageLimits} {i : ℕ} {S : List ℕ} {r : ℕ} (page : PageTo l i 
 
   -- what a start adds to its sum fits
   pub page-small : (getD S i 0 + l .lmin < 2 ^ 25) × (getD S i 0 + l .lmax < 2 ^ 25)
-  page-small = (omega (arith, small, limits .apart, limits .lmax-high), omega (arith, small, limits .lmax-high))
+  page-small = (omega (arith, small, limits), omega (arith, small, limits))
     where
       limits : PageRanges l
       limits = page-ranges l (page .held .passed .limits)

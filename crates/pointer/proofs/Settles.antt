@@ -2,13 +2,13 @@
 use Prim.Native.Nat.{ℕ, _+_, _-_, _^_, _≤_, _<_}
 use mathlib.Core.Path.{_≡_, refl, ap, sym, _∙_}
 use mathlib.Core.Logic.{⊎-elim}
-use mathlib.Core.Bool.{Bool, true, false, _&&_, and-true}
+use mathlib.Core.Bool.{Bool, true, false, and-true}
 use mathlib.Core.List.{List}
 use native.Mathlib.Omega.{arith}
 use borrow.Author.Tests.{le-leb, lt-leb}
 use lib.Dec.{leb}
 use lib.ListN.{length, getD, set}
-use Rattle.laws.specs.Number.{split}
+use Rattle.laws.specs.Number.{split, true-not-false}
 use Rattle.laws.specs.Cost.{Cost, none, some, has?, before}
 use Rattle.laws.specs.Chosen.{next}
 use Rattle.paper.specs.declared.PageLimits.{PageLimits}
@@ -17,7 +17,6 @@ use Rattle.paper.specs.Index.{gap, item}
 use Rattle.paper.specs.PointerRules.{chooser}
 use Rattle.paper.specs.Strips.{bestEntry}
 use Rattle.paper_theory.specs.Bound.{index-bound}
-use Rattle.pointer_theory.specs.Turns.{true-not-false}
 use Rattle.pointer_theory.specs.Choice.{chooser-is, chooser-none}
 use Rattle.pointer_theory.specs.Numbers.{best-none}
 use Rattle.strips.specs.Words.{wordsOf, sums-size}

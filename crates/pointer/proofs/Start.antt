@@ -8,12 +8,12 @@ use lib.Seq.{getD-set-same}
 use Rattle.paper.specs.declared.PageLimits.{PageLimits}
 use Rattle.paper.specs.Moves.{Taken}
 use Rattle.paper.specs.PointerRules.{pagesOf, links, Pointing, pointed, linked, atStart}
-use Rattle.pointer_theory.specs.Ready.{ready-falls, ready-rises, ready-pointed, Pointed}
+use Rattle.pointer_theory.specs.Ready.{Pointed, ready-falls, ready-rises, ready-pointed}
 use Rattle.pointer_theory.specs.Choice.{Choosing, ready-choosing}
 use Rattle.strips.specs.Running.{Ran, joined-first, joined-room, joined-ran}
 use Rattle.strips.specs.Words.{wordsOf, sums-size}
 use Rattle.pointer.specs.Held.{bestAt, PageBests, bests-size, bests-at, bests-more}
-use Rattle.pointer.specs.Asks.{pagesIn, PointerStrips, linkStrips, pointerStrips, pointing}
+use Rattle.pointer.specs.Asks.{pagesIn, PointerStrips, linkStrips, pointerStrips}
 use Rattle.pointer.specs.Asks.{JumpsAsk, JoinAsk, PointerSettleAsk, PointerStartAsk, JoinCame, PointerSettled, PointerStarted}
 
 -- the links are all the moves of a start past 0
@@ -44,15 +44,15 @@ module _ {l : PageLimits} {i : ℕ} {S : List ℕ} {r : ℕ} {s : PointerStrips}
       page = record { held = a .held; above = a .ready .above; within = omega (arith, a .ready .within, size) };
       enough = joined-first points then 0 (length (s .moves)) (omega (arith, a .enough));
     };
-    size = omega (arith, a .ready .left-length, size);
-    falls = ready-falls l ws i (pointing r s) (a .ready);
-    from = λ k h g. a .ready .left k h (omega (arith, size)) .from;
+    size = omega (arith, a .ready .entries .left-length, size);
+    falls = ready-falls (a .ready);
+    from = λ k h g. a .ready .entries .lefts k h (omega (arith, size)) .from;
   }
 
   -- the rules came to q
   module _ {m : List ℕ} {taken q : ℕ} (ran : Ran points 0 (s .moves) m taken q) where
     stood : Pointed l ws i (s .left) q
-    stood = subst (Pointed l ws i (s .left)) (ran .stands) (ready-pointed l ws i (pointing r s) (a .ready))
+    stood = subst (Pointed l ws i (s .left)) (ran .stands) (ready-pointed (a .ready))
 
     pub start-settles : PointerSettleAsk l i S (s .best) (s .next) q
     start-settles = record {
@@ -64,7 +64,7 @@ module _ {l : PageLimits} {i : ℕ} {S : List ℕ} {r : ℕ} {s : PointerStrips}
       best-size = omega (arith, bests-size (a .bests), size);
       next-size = a .next-size;
       choosing = subst (λ (z : ℕ). Choosing l ws i z) (ran .stands)
-          (ready-choosing l ws i (pointing r s) (omega (arith, a .low, size)) (a .ready));
+          (ready-choosing l ws (omega (arith, a .low, size)) (a .ready));
     }
 
     links-room : taken + length (then q .moves) ≤ length (s .moves)
@@ -89,17 +89,18 @@ module _ {l : PageLimits} {i : ℕ} {S : List ℕ} {r : ℕ} {s : PointerStrips}
               bests = bests;
               low = omega (arith, a .low, size);
               is = rw (settled .best) (sym (getD-set-same (s .best) i v 0 (omega (arith, a .low, size, bests-size (a .bests)))));
-              left-size = omega (arith, a .ready .left-length);
-              right-size = omega (arith, a .ready .right-length);
+              left-size = omega (arith, a .ready .entries .left-length);
+              right-size = omega (arith, a .ready .entries .right-length);
               rises = λ k h g.
-                  let up = ready-rises l ws i (pointing r s) (a .ready) k h (omega arith) in
+                  let up = ready-rises (a .ready) k h (omega arith) in
                   (up .0, omega (arith, up .1));
               enough = omega (arith, linked-moves l ws i (s .left) (s .right) q pos, links-room);
             };
         began = omega (arith, links-room);
       }
 
-      pub start-done : {k : ℕ} {left right n : List ℕ} → JoinCame i C (linkStrips (s .left) (s .right) m) taken k (linkStrips left right n) →
+      pub start-done : {k : ℕ} {left right n : List ℕ} →
+          JoinCame i C (linkStrips (s .left) (s .right) m) taken k (linkStrips left right n) →
           PointerStarted l i ws r s (record { at = q; moves = k }) (pointerStrips C M left right n)
       unfolding atStart
       start-done {k} {left} {right} {n} joins = record {

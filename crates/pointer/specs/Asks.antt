@@ -11,7 +11,7 @@ use Rattle.paper.specs.Index.{gap}
 use Rattle.paper.specs.Moves.{Taken}
 use Rattle.paper.specs.PointerRules.{Pages, pagesOf, entryAt, links, Pointing, linked, atStart}
 use Rattle.paper.specs.Strips.{sums}
-use Rattle.pointer_theory.specs.Ready.{Ready}
+use Rattle.pointer_theory.specs.Ready.{PointerReady}
 use Rattle.pointer_theory.specs.Choice.{Choosing}
 use Rattle.strips.specs.declared.Reached.{Reached}
 use Rattle.strips.specs.Running.{Ran}
@@ -105,7 +105,7 @@ pub record PointerSettleAsk (l : PageLimits) (i : ℕ) (S B N : List ℕ) (r : �
 pub record PointerStartAsk (l : PageLimits) (i : ℕ) (S : List ℕ) (r : ℕ) (s : PointerStrips) : Type 0 where
   pub held : Holds (pageLimitsHold l) S
   pub low : i < length S
-  pub ready : Ready l (wordsOf S) i (pointing r s)
+  pub ready : PointerReady l (wordsOf S) i (pointing r s)
   pub bests : PageBests l (wordsOf S) (s .best) (suc i)
   pub next-size : length (s .next) ≡ length S + 1
   pub enough : length (atStart (pagesIn l S) (length (wordsOf S)) i (pointing r s) .moves) ≤ length (s .moves)
@@ -114,7 +114,8 @@ pub record PointerStartAsk (l : PageLimits) (i : ℕ) (S : List ℕ) (r : ℕ) (
 -- the linking of start i came to an index, in each text whose bests the strip holds
 pub record LinksCame (i : ℕ) (B : List ℕ) (s : LinkStrips) (c : ℕ) (p : Reached) (left m : List ℕ) : Type 0 where
   pub ran : (l : PageLimits) (ws : List ℕ) → PageBests l ws B i →
-      Ran (links (pagesOf l ws) i (s .right) (length ws) (suc i) (s .left)) c (s .moves) m (p .moves) (record { reached = p .at; left = left })
+      Ran (links (pagesOf l ws) i (s .right) (length ws) (suc i) (s .left)) c (s .moves) m (p .moves)
+      (record { reached = p .at; left = left })
   pub within : p .at < length B
 
 -- and the index reached became the right of i
@@ -130,7 +131,8 @@ pub record PointerSettled (l : PageLimits) (ws : List ℕ) (i : ℕ) (B₀ N₀ 
   pub next : N ≡ set N₀ i (Index.chosenNext l ws i)
 
 -- the rules of start i came to a pointer, and its best and its chosen next are entered
-pub record PointerStarted (l : PageLimits) (i : ℕ) (ws : List ℕ) (r : ℕ) (s : PointerStrips) (p : Reached) (t : PointerStrips) : Type 0 where
+pub record PointerStarted (l : PageLimits) (i : ℕ) (ws : List ℕ) (r : ℕ) (s : PointerStrips) (p : Reached) (t : PointerStrips) :
+    Type 0 where
   pub ran : Ran (atStart (pagesOf l ws) (length ws) i (pointing r s)) 0 (s .moves) (t .moves) (p .moves) (pointing (p .at) t)
   pub best : t .best ≡ set (s .best) i (bestAt l ws i)
   pub next : t .next ≡ set (s .next) i (Index.chosenNext l ws i)

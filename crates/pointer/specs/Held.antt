@@ -6,12 +6,11 @@ use mathlib.Core.List.{List}
 use native.Mathlib.Omega.{arith}
 use lib.ListN.{length, getD, set}
 use Rattle.laws.specs.Number.{split}
-use Rattle.laws.specs.Cost.{some}
 use Rattle.paper.specs.declared.PageLimits.{PageLimits}
 use Rattle.paper.specs.Allowed.{pageLimitsHold, Passed}
 use Rattle.paper.specs.Index as Index
 use Rattle.paper.specs.Strips.{bestEntry}
-use Rattle.pointer_theory.specs.Turns.{best-last}
+use Rattle.pointer_theory.specs.Ready.{best-last}
 use Rattle.strips.specs.Filling.{Entered, entered-more}
 
 -- the entry of index k

@@ -1,5 +1,5 @@
-// The pointer rules of document 01, a start at a time, which has taken `count` moves. Gap(i, r) is sums[r - 1] - sums[i]: what a start allows
-// is read off the sums once a rule. Workshop parts: they ask what their callers meet.
+// The pointer rules of document 01, a start at a time, which has taken `count` moves. Gap(i, r) is sums[r - 1] - sums[i], so a rule
+// compares sums[r - 1] with what start i allows. Workshop parts: they ask what their callers meet.
 use paper::Kind;
 use paper::Move;
 use paper::PageLimits;
@@ -210,7 +210,8 @@ fn settle(
     NONE
 }
 
-// One start, which is lent the moves strip from the present count on: the pointer, the choice, the links. The moves in the answer are its own.
+// One start, which is lent the moves strip from the present count on: the pointer, the choice, the links. The moves in the answer are
+// its own.
 pub fn at_start(
     l: PageLimits,
     i: usize,

@@ -3,57 +3,68 @@
 use Prim.Native.Nat.{ℕ, zero, suc, _+_, _-_, _≤_, _<_}
 use mathlib.Core.Path.{_≡_, refl, ap, sym, subst, _∙_}
 use mathlib.Core.Logic.{⊎-elim}
-use mathlib.Core.Bool.{Bool, true, false, _&&_}
+use mathlib.Core.Bool.{true, false, _&&_, and-false}
 use mathlib.Core.List.{List}
 use native.Mathlib.Omega.{arith}
 use lib.Dec.{leb, leb→le, le→leb}
 use lib.ListN.{length}
 use borrow.Author.Tests.{le-leb, lt-leb}
-use Rattle.laws.specs.Number.{split, both}
-use Rattle.laws.specs.Cost.{Cost, none, some, _≼_, Has, has?, has-some, before, before-mono}
+use Rattle.laws.specs.Number.{split, both, true-not-false}
+use Rattle.laws.specs.Cost.{Cost, none, some, _≼_, has?, has-some, has-value, before, before-mono}
 use Rattle.laws.specs.Search.{largest}
 use Rattle.laws.specs.Setting.{Choice, through}
 use Rattle.laws.specs.Chosen.{Next, next-unique}
-use Rattle.laws.specs.Pointer.{Cheaper, Left, Chosen, placed-chosen, cheaper-next, no-next, same?}
+use Rattle.laws.specs.Pointer.{Cheaper, TakenFirst, placed-chosen, cheaper-next, no-next, same?}
 use Rattle.paper.specs.declared.PageLimits.{PageLimits}
 use Rattle.paper.specs.Index as Index
 use Rattle.paper.specs.Index.{gap, page, item, index}
-use Rattle.paper_theory.specs.Cheapest.{index-sums, chosen-index}
 use Rattle.paper.specs.PointerRules.{pagesOf, entryAt, Pointing, pointed, linked, atStart, afterStarts, pointerAt, chooser}
-use Rattle.pointer_theory.specs.Turns.{true-not-false}
-use Rattle.pointer_theory.specs.Ready.{taken, gap-grows, Ready, Pointed, ready-pointed, ready-at}
+use Rattle.paper_theory.specs.Cheapest.{index-sums, chosen-index}
+use Rattle.pointer_theory.specs.Ready.{taken, gapsOf, LeftFrom, PointerReady, Pointed, ready-pointed, ready-at}
 
+-- ---- the chooser
+-- "r is the chooser if Gap(i, r) lies in lmin..lmax and r has a setting"
+module _ (l : PageLimits) (ws : List ℕ) (i r : ℕ) where
+  pub chooser-is : chooser (pagesOf l ws) i r ≡ leb (l .lmin) (gap ws i r) && (leb (gap ws i r) (l .lmax) && has? (Index.best l ws r))
+  unfolding pagesOf
+  chooser-is = refl
+
+  chooser-some : {v : ℕ} → l .lmin ≤ gap ws i r → gap ws i r ≤ l .lmax → Index.best l ws r ≡ some v → chooser (pagesOf l ws) i r ≡ true
+  chooser-some wide allowed e = chooser-is ∙ rw (le-leb (l .lmin) (gap ws i r) wide, le-leb (gap ws i r) (l .lmax) allowed, e)
+
+  chooser-near : gap ws i r < l .lmin → chooser (pagesOf l ws) i r ≡ false
+  chooser-near near = chooser-is ∙ rw (lt-leb (l .lmin) (gap ws i r) near)
+
+  pub chooser-none : gap ws i r ≤ l .lmax → Index.best l ws r ≡ none → chooser (pagesOf l ws) i r ≡ false
+  chooser-none allowed e = chooser-is ∙ rw (le-leb (gap ws i r) (l .lmax) allowed, e) (and-false (leb (l .lmin) (gap ws i r)))
+
+-- what demand 3 says of start i, where the pointer comes to r
+pub record Choosing (l : PageLimits) (ws : List ℕ) (i r : ℕ) : Type 0 where
+  pub exactly : has? (Index.best l ws i) ≡ chooser (pagesOf l ws) i r
+  pub chosen : chooser (pagesOf l ws) i r ≡ true → r ≡ Index.chosenNext l ws i
+  pub gives : chooser (pagesOf l ws) i r ≡ true → Index.best l ws i ≡ before _+_ (item ws i) (Index.best l ws r)
+  pub nothing : chooser (pagesOf l ws) i r ≡ false → Index.best l ws i ≡ none
+
+-- ---- the pointer
 -- a sum is no larger only where the rest is no larger
 sum-cancel : (c : ℕ) (a b : Cost) → before _+_ c a ≼ before _+_ c b → a ≼ b
 sum-cancel c a none h = tt
 sum-cancel c none (some n) h = h
 sum-cancel c (some m) (some n) h = omega arith
 
-sum-has : (c : ℕ) (a : Cost) → Has a → Has (before _+_ c a)
-sum-has c none h = h
-sum-has c (some n) h = tt
-
 none-top : (a : Cost) → none ≼ a → a ≡ none
 none-top none h = refl
 none-top (some n) h = absurd h
 
-has-true : (a : Cost) → Has a → has? a ≡ true
-has-true none h = absurd h
-has-true (some n) h = refl
-
-and-false : (b : Bool) → b && false ≡ false
-and-false true = refl
-and-false false = refl
-
-module _ (l : PageLimits) (ws : List ℕ) (i r : ℕ) (left : List ℕ) (low : i ≤ length ws) (at : Pointed l ws i left r)
-    (own : Left (taken l ws) (suc i) r (entryAt left r)) where
+module _ (l : PageLimits) (ws : List ℕ) (i r : ℕ) {left : List ℕ} (low : i ≤ length ws) (at : Pointed l ws i left r)
+    (own : LeftFrom l ws (suc i) r (entryAt left r)) where
   -- r is taken before every other choice, and is a choice if there is any
-  any : (j : ℕ) → Choice (index l ws) i j → Chosen (taken l ws) (gap ws) (gap-grows ws) (l .lmin) (l .lmax) (length ws + 1) i r j
+  any : (j : ℕ) → Choice (index l ws) i j → TakenFirst (taken l ws) (gapsOf l ws) i r j
   unfolding index page
   any j ch =
       let b = both (leb (l .lmin) (gap ws i j)) (leb (gap ws i j) (l .lmax)) (ch .admissible) in
-      placed-chosen (taken l ws) (gap ws) (gap-grows ws) (l .lmin) (l .lmax) (length ws + 1) i r (entryAt left r) own (at .stops) (at .stepped .placed)
-      j (ch .rises) (ch .within) (leb→le (l .lmin) (gap ws i j) (b .0)) (leb→le (gap ws i j) (l .lmax) (b .1))
+      placed-chosen own (at .stops) (at .stepped .placed) j (ch .rises) (ch .within)
+      (leb→le (l .lmin) (gap ws i j) (b .0)) (leb→le (gap ws i j) (l .lmax) (b .1))
 
   own-choice : l .lmin ≤ gap ws i r → Choice (index l ws) i r
   unfolding index page
@@ -70,55 +81,29 @@ module _ (l : PageLimits) (ws : List ℕ) (i r : ℕ) (left : List ℕ) (low : i
     strict = λ a h. b .strict a (sum-cancel (item ws i) (Index.best l ws j) (Index.best l ws r) h);
   }
 
-  pub pointer-next : l .lmin ≤ gap ws i r → Has (Index.best l ws r) → Next (index l ws) largest i r
+  pointer-next : {v : ℕ} → l .lmin ≤ gap ws i r → Index.best l ws r ≡ some v → Next (index l ws) largest i r
   unfolding Index.best index
-  pointer-next wide has =
-      cheaper-next (index l ws) i (omega arith) largest r (own-choice wide) (sum-has (item ws i) (Index.best l ws r) has)
+  pointer-next wide e =
+      cheaper-next (index l ws) i (omega arith) largest r (own-choice wide) (has-some (ap (before _+_ (item ws i)) e))
       (λ j ch ne. cheaper-through j (any j ch .beats ne))
 
   -- no page fits: lmin forbids r, or r has no setting
-  pub pointer-near : gap ws i r < l .lmin → Index.best l ws i ≡ none
+  pointer-near : gap ws i r < l .lmin → Index.best l ws i ≡ none
   unfolding Index.best index
   pointer-near near = no-next (index l ws) i (omega arith) (λ j ch. absurd (omega (arith, any j ch .wide)))
 
-  pub pointer-none : Index.best l ws r ≡ none → Index.best l ws i ≡ none
+  pointer-none : Index.best l ws r ≡ none → Index.best l ws i ≡ none
   unfolding Index.best index
   pointer-none e = no-next (index l ws) i (omega arith) (λ j ch. ⊎-elim
       (λ same. ap (Index.best l ws) same ∙ e)
       (λ other. none-top (Index.best l ws j) (subst (λ (c : Cost). c ≼ Index.best l ws j) e (any j ch .beats other .low)))
       (same? j r))
 
--- ---- the chooser
--- "r is the chooser if Gap(i, r) lies in lmin..lmax and r has a setting"
-module _ (l : PageLimits) (ws : List ℕ) (i r : ℕ) where
-  pub chooser-is : chooser (pagesOf l ws) i r ≡ leb (l .lmin) (gap ws i r) && (leb (gap ws i r) (l .lmax) && has? (Index.best l ws r))
-  unfolding pagesOf
-  chooser-is = refl
-
-  pub chooser-holds : l .lmin ≤ gap ws i r → gap ws i r ≤ l .lmax → Has (Index.best l ws r) → chooser (pagesOf l ws) i r ≡ true
-  chooser-holds wide allowed has =
-      chooser-is ∙ rw (le-leb (l .lmin) (gap ws i r) wide, le-leb (gap ws i r) (l .lmax) allowed) (has-true (Index.best l ws r) has)
-
-  pub chooser-near : gap ws i r < l .lmin → chooser (pagesOf l ws) i r ≡ false
-  chooser-near near = chooser-is ∙ rw (lt-leb (l .lmin) (gap ws i r) near)
-
-  pub chooser-none : gap ws i r ≤ l .lmax → Index.best l ws r ≡ none → chooser (pagesOf l ws) i r ≡ false
-  chooser-none allowed e = chooser-is ∙ rw (le-leb (gap ws i r) (l .lmax) allowed, e) (and-false (leb (l .lmin) (gap ws i r)))
-
--- what demand 3 says of start i, where the pointer comes to r
-pub record Choosing (l : PageLimits) (ws : List ℕ) (i r : ℕ) : Type 0 where
-  pub exactly : has? (Index.best l ws i) ≡ chooser (pagesOf l ws) i r
-  pub chosen : chooser (pagesOf l ws) i r ≡ true → r ≡ Index.chosenNext l ws i
-  pub gives : chooser (pagesOf l ws) i r ≡ true → Index.best l ws i ≡ before _+_ (item ws i) (Index.best l ws r)
-  pub nothing : chooser (pagesOf l ws) i r ≡ false → Index.best l ws i ≡ none
-
-module _ (l : PageLimits) (ws : List ℕ) (i r : ℕ) (left : List ℕ) (low : i ≤ length ws) (at : Pointed l ws i left r)
-    (own : Left (taken l ws) (suc i) r (entryAt left r)) where
   -- the pointer is the chosen next
   choosing-next : Next (index l ws) largest i r → chooser (pagesOf l ws) i r ≡ true → Choosing l ws i r
   unfolding Index.best index
   choosing-next n holds = record {
-    exactly = has-true (Index.best l ws i) (n .has) ∙ sym holds;
+    exactly = ap has? (has-value (Index.best l ws i) (n .has)) ∙ sym holds;
     chosen = λ e. next-unique n (chosen-index l ws i (omega arith) (n .has));
     gives = λ e. sym (n .gives);
     nothing = λ e. absurd (true-not-false (sym holds ∙ e));
@@ -132,36 +117,36 @@ module _ (l : PageLimits) (ws : List ℕ) (i r : ℕ) (left : List ℕ) (low : i
     nothing = λ e. none-i;
   }
 
-  pub choosing : Choosing l ws i r
+  choosing : Choosing l ws i r
   choosing = ⊎-elim
       (λ wide. rest wide (Index.best l ws r) refl)
-      (λ near. choosing-none (pointer-near l ws i r left low at own near) (chooser-near l ws i r near))
+      (λ near. choosing-none (pointer-near near) (chooser-near l ws i r near))
       (split (l .lmin) (gap ws i r))
     where
       rest : l .lmin ≤ gap ws i r → (c : Cost) → Index.best l ws r ≡ c → Choosing l ws i r
-      rest wide none e = choosing-none (pointer-none l ws i r left low at own e) (chooser-none l ws i r (at .stepped .allowed) e)
-      rest wide (some v) e = choosing-next (pointer-next l ws i r left low at own wide (has-some e)) (chooser-holds l ws i r wide (at .stepped .allowed) (has-some e))
+      rest wide none e = choosing-none (pointer-none e) (chooser-none l ws i r (at .stepped .allowed) e)
+      rest wide (some v) e = choosing-next (pointer-next wide e) (chooser-some l ws i r wide (at .stepped .allowed) e)
 
 -- ---- all starts
 module _ (l : PageLimits) (ws : List ℕ) where
   -- linking leaves the pointer where it is
-  pub start-pointer : (i : ℕ) (s : Pointing) →
+  start-pointer : (i : ℕ) (s : Pointing) →
       atStart (pagesOf l ws) (length ws) i s .stands .pointer ≡ pointed (pagesOf l ws) i (s .left) (s .pointer) .stands
   unfolding atStart linked
   start-pointer zero s = refl
   start-pointer (suc i) s = refl
 
   -- where start i is ready
-  pub ready-choosing : (i : ℕ) (s : Pointing) → i ≤ length ws → Ready l ws i s →
+  pub ready-choosing : {i : ℕ} {s : Pointing} → i ≤ length ws → PointerReady l ws i s →
       Choosing l ws i (pointed (pagesOf l ws) i (s .left) (s .pointer) .stands)
-  ready-choosing i s low ready =
-      let at = ready-pointed l ws i s ready in
-      choosing l ws i (pointed (pagesOf l ws) i (s .left) (s .pointer) .stands) (s .left) low at
-      (ready .left (pointed (pagesOf l ws) i (s .left) (s .pointer) .stands) (at .stepped .above) (at .stepped .within))
+  ready-choosing {i} {s} low ready =
+      let r = pointed (pagesOf l ws) i (s .left) (s .pointer) .stands in
+      let at = ready-pointed ready in
+      choosing l ws i r low at (ready .entries .lefts r (at .stepped .above) (at .stepped .within))
 
   -- Demand 3.
-  pub pointer-right : (i : ℕ) → i ≤ length ws → Choosing l ws i (pointerAt l ws i .stands .pointer)
+  pub pointer-chooses : (i : ℕ) → i ≤ length ws → Choosing l ws i (pointerAt l ws i .stands .pointer)
   unfolding pointerAt
-  pointer-right i low =
-      let s = afterStarts (pagesOf l ws) (length ws) (length ws - i) .stands in
-      rw (start-pointer i s) (ready-choosing i s low (ready-at l ws i low))
+  pointer-chooses i low =
+      rw (start-pointer i (afterStarts (pagesOf l ws) (length ws) (length ws - i) .stands))
+      (ready-choosing low (ready-at l ws (length ws - i) i (omega arith)))

@@ -6,12 +6,12 @@ use mathlib.Core.List.{List}
 use native.Mathlib.Omega.{arith}
 use lib.ListN.{length}
 use borrow.Author.Tests.{le-leb, lt-leb}
-use Rattle.laws.specs.Cost.{Cost, none, some, leq, Has}
+use Rattle.laws.specs.Cost.{Cost, none, some, leq}
 use Rattle.paper.specs.declared.PageLimits.{PageLimits}
 use Rattle.paper.specs.Index as Index
 use Rattle.paper.specs.Allowed.{pageLimitsHold, Passed}
-use Rattle.paper_theory.specs.Bound.{index-bound}
 use Rattle.paper.specs.Strips.{bestEntry}
+use Rattle.paper_theory.specs.Bound.{index-bound}
 
 module _ (l : PageLimits) (ws : List ℕ) (passed : Passed (pageLimitsHold l) ws) where
   small : (k v : ℕ) → k ≤ length ws + 1 → Index.best l ws k ≡ some v → v < 2 ^ 64 - 1
@@ -39,15 +39,7 @@ module _ (l : PageLimits) (ws : List ℕ) (passed : Passed (pageLimitsHold l) ws
       go none (some n) e le = absurd (omega (arith, small i n h e))
       go (some m) (some n) e le = le-leb m n le
 
-  -- the entry of an index that has a setting, and of one that has none
-  pub best-has : (k : ℕ) → bestEntry (Index.best l ws k) < 2 ^ 64 - 1 → Has (Index.best l ws k)
-  unfolding bestEntry
-  best-has k lt = go (Index.best l ws k) lt
-    where
-      go : (a : Cost) → bestEntry a < 2 ^ 64 - 1 → Has a
-      go none lt = absurd (omega arith)
-      go (some v) lt = tt
-
+  -- the entry of an index that has no setting
   pub best-none : (k : ℕ) → k ≤ length ws + 1 → 2 ^ 64 - 1 ≤ bestEntry (Index.best l ws k) → Index.best l ws k ≡ none
   unfolding bestEntry
   best-none k h le = go (Index.best l ws k) refl le

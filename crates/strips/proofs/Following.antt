@@ -50,5 +50,6 @@ module _ (N : List ℕ) (o n first : ℕ) (s₀ : List ℕ) where
 
     pub following-done : n < at → Followed (chain N o n first) s₀ s found
     following-done h =
-        let e : chain N o n first ≡ f .done = f .so-far ∙ ap (λ (l : List ℕ). f .done ++ l) (chain-past N o n at h) ∙ append-nil (f .done) in
+        let past = ap (λ (l : List ℕ). f .done ++ l) (chain-past N o n at h) in
+        let e : chain N o n first ≡ f .done = f .so-far ∙ past ∙ append-nil (f .done) in
         record { is = f .is ∙ ap (λ (l : List ℕ). over l s₀) (sym e); counted = f .count ∙ ap length (sym e) }

@@ -65,7 +65,8 @@ pub clearing-first : (s₀ : List ℕ) (n : ℕ) → Clearing s₀ n s₀ 0
 unfolding over
 clearing-first s₀ n = record { within = omega arith; is = refl; len = refl }
 
-pub clearing-more : (s₀ : List ℕ) (n : ℕ) (s : List ℕ) (k : ℕ) → Clearing s₀ n s k → k < n → n ≤ length s₀ → Clearing s₀ n (set s k 0) (k + 1)
+pub clearing-more : (s₀ : List ℕ) (n : ℕ) (s : List ℕ) (k : ℕ) → Clearing s₀ n s k → k < n → n ≤ length s₀ →
+    Clearing s₀ n (set s k 0) (k + 1)
 clearing-more s₀ n s k c more room = record {
   within = omega arith;
   is = ap (λ (l : List ℕ). set l k 0) (c .is)

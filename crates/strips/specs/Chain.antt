@@ -78,7 +78,8 @@ module _ (N : List ℕ) (o n : ℕ) where
       let e : n + 1 - at ≡ suc (n - at) = omega arith in
       ap (λ (d : ℕ). chained d N o n at) e
       ∙ chained-more (n - at) at h
-      ∙ ap (λ (l : List ℕ). at ∷ l) (chained-enough (n - at) (n + 1 - nextIn N o at) (nextIn N o at) (leads-on at leads h) (omega arith) (omega arith))
+      ∙ ap (λ (l : List ℕ). at ∷ l)
+      (chained-enough (n - at) (n + 1 - nextIn N o at) (nextIn N o at) (leads-on at leads h) (omega arith) (omega arith))
 
   pub chain-past : (at : ℕ) → n < at → chain N o n at ≡ []
   unfolding chain
@@ -128,7 +129,9 @@ module _ (p : Problem) (tie : ℕ → Tie) (f : ℕ → ℕ)
   chosen-leads N o n e same at from has = record {
     from = from;
     first = λ h. omega (arith, same at from h, chosen at (omega arith) (has h) .choice .rises);
-    rises = λ k g h pos. omega (arith, same k g h, chosen k (omega arith) (has-next k (omega arith) (omega (arith, same k g h))) .choice .rises);
+    rises = λ k g h pos.
+        let here = same k g h in
+        omega (arith, chosen k (omega arith) (has-next k (omega arith) (omega arith)) .choice .rises);
     on = λ k g h pos more. on k g h (omega (arith, same k g h)) (omega (arith, same k g h));
   }
     where

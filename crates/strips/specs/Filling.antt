@@ -43,7 +43,9 @@ module _ {f : ℕ → ℕ} {o n : ℕ} where
       (record {
         size = ap (λ (m : ℕ). m + o) (length-set s p (f k)) ∙ d .size;
         each = λ j q at low high. ⊎-elim
-            (λ le. let z : j ≡ k = omega arith in let y : q ≡ p = omega arith in rw (z, y) (getD-set-same s p (f k) 0 (omega (arith, d .size))))
+            (λ le. let z : j ≡ k = omega arith in
+            let y : q ≡ p = omega arith in
+            rw (z, y) (getD-set-same s p (f k) 0 (omega (arith, d .size))))
             (λ gt. getD-set-other s p q (f k) 0 (omega arith) ∙ d .each j q at (omega arith) high)
             (split j k);
         last = λ q at. getD-set-other s p q (f k) 0 (omega arith) ∙ d .last q at;

@@ -71,7 +71,9 @@ module _ {A : Type 0} (whole : Taken A) (c : ℕ) (m₀ : List ℕ) where
           done = r .done ++ s .moves;
           is = t .moves ∙ ap (written k (s .moves)) (r .is) ∙ written-after c (r .done) (s .moves) m₀ k (r .count) (began r);
           count = simp length-append (omega (arith, r .count, t .count));
-          so-far = r .so-far ∙ ap (λ (l : List Move). record { moves = l; stands = f (s .stands) .stands }) (sym (append-assoc (r .done) (s .moves) (f (s .stands) .moves)));
+          so-far = r .so-far
+              ∙ ap (λ (l : List Move). record { moves = l; stands = f (s .stands) .stands })
+              (sym (append-assoc (r .done) (s .moves) (f (s .stands) .moves)));
           fits = room;
         })
 
@@ -84,12 +86,14 @@ module _ {A : Type 0} (whole : Taken A) (c : ℕ) (m₀ : List ℕ) where
           ∙ onward-set c (map code (r .done)) m₀ (began r) (code mv) k (omega (arith, r .count, length-codes (r .done))) room
           ∙ ap (λ (l : List ℕ). onward c l m₀) (sym (map-append (r .done) (mv ∷ [])));
       count = simp length-append (omega (arith, r .count));
-      so-far = r .so-far ∙ ap (λ (l : List Move). record { moves = l; stands = rest .stands }) (sym (append-assoc (r .done) (mv ∷ []) (rest .moves)));
+      so-far = r .so-far
+          ∙ ap (λ (l : List Move). record { moves = l; stands = rest .stands }) (sym (append-assoc (r .done) (mv ∷ []) (rest .moves)));
       fits = omega arith;
     }
 
     -- a rule whose moves have room has room for each
-    pub running-place : {rest : Taken A} (mv : Move) → Running whole (moved mv rest) c m₀ m k → c + length (whole .moves) ≤ length m₀ → k < length m₀
+    pub running-place : {rest : Taken A} (mv : Move) → Running whole (moved mv rest) c m₀ m k →
+        c + length (whole .moves) ≤ length m₀ → k < length m₀
     running-place {rest} mv r room =
         omega (arith, r .count, ap (λ (t : Taken A). length (t .moves)) (r .so-far), length-append (r .done) (mv ∷ rest .moves))
 
@@ -103,7 +107,8 @@ module _ {A : Type 0} (whole : Taken A) (c : ℕ) (m₀ : List ℕ) where
           stands = ap (λ (t : Taken A). t .stands) (r .so-far);
         }
 
-pub ran-length : {A : Type 0} (whole : Taken A) (c : ℕ) (m₀ m : List ℕ) (k : ℕ) (a : A) → Ran whole c m₀ m k a → k ≤ length m₀ → length m ≡ length m₀
+pub ran-length : {A : Type 0} (whole : Taken A) (c : ℕ) (m₀ m : List ℕ) (k : ℕ) (a : A) → Ran whole c m₀ m k a → k ≤ length m₀ →
+    length m ≡ length m₀
 ran-length whole c m₀ m k a r room =
     ap length (r .moves)
     ∙ length-onward c (map code (whole .moves)) m₀ (omega (arith, r .count)) (omega (arith, r .count, length-codes (whole .moves)))
@@ -118,7 +123,8 @@ ran-lent whole k m n u a h r = record {
 }
 
 -- ---- a rule, and then the next
-pub joined-first : {A B : Type 0} (s : Taken A) (f : A → Taken B) (c room : ℕ) → c + length (joined s f .moves) ≤ room → c + length (s .moves) ≤ room
+pub joined-first : {A B : Type 0} (s : Taken A) (f : A → Taken B) (c room : ℕ) → c + length (joined s f .moves) ≤ room →
+    c + length (s .moves) ≤ room
 joined-first s f c room h = omega (arith, length-append (s .moves) (f (s .stands) .moves))
 
 module _ {A B : Type 0} (s : Taken A) (f : A → Taken B) (c : ℕ) (m₀ m : List ℕ) (k : ℕ) (a : A) (first : Ran s c m₀ m k a) where
@@ -128,13 +134,16 @@ module _ {A B : Type 0} (s : Taken A) (f : A → Taken B) (c : ℕ) (m₀ m : Li
   pub joined-ran : (n : List ℕ) (k′ : ℕ) (b : B) → c ≤ length m₀ → Ran (f a) k m n k′ b → Ran (joined s f) c m₀ n k′ b
   joined-ran n k′ b h =
       rw (← first .stands) (λ second. record {
-        moves = second .moves ∙ ap (written k (f (s .stands) .moves)) (first .moves) ∙ written-after c (s .moves) (f (s .stands) .moves) m₀ k (first .count) h;
+        moves = second .moves
+            ∙ ap (written k (f (s .stands) .moves)) (first .moves)
+            ∙ written-after c (s .moves) (f (s .stands) .moves) m₀ k (first .count) h;
         count = simp length-append (omega (arith, first .count, second .count));
         stands = second .stands;
       })
 
 -- one rule after the other, and then a third
-pub joined-assoc : {A B C : Type 0} (r : Taken A) (f : A → Taken B) (g : B → Taken C) → joined (joined r f) g ≡ joined r (λ a. joined (f a) g)
+pub joined-assoc : {A B C : Type 0} (r : Taken A) (f : A → Taken B) (g : B → Taken C) →
+    joined (joined r f) g ≡ joined r (λ a. joined (f a) g)
 joined-assoc r f g =
     ap (λ (l : List Move). record { moves = l; stands = g (f (r .stands) .stands) .stands })
     (append-assoc (r .moves) (f (r .stands) .moves) (g (f (r .stands) .stands) .moves))

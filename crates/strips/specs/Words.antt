@@ -73,4 +73,5 @@ module _ (hold : Bool) (S : List ℕ) (h : Holds hold S) where
 
   pub holds-rising : (a b : ℕ) → a ≤ b → b < length S → getD S a 0 ≤ getD S b 0
   holds-rising a b ab bs =
-      omega (arith, holds-length, holds-entry a (omega (arith, holds-length)), holds-entry b (omega (arith, holds-length)), upTo-le (wordsOf S) a b ab)
+      let size = holds-length in
+      omega (arith, holds-entry a (omega arith), holds-entry b (omega arith), upTo-le (wordsOf S) a b ab)

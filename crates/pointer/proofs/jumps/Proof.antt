@@ -22,12 +22,14 @@ mul-if2 : tie.Need-mul-if2 Inv-loop μ-loop
 mul-if2 c =
     let good = c .before .before .before .before .before .before .before .before .good in
     let pre = c .before .before .before .before .before .before .before .before .pre in
-    omega (arith, jump-page pre (c .before .before .before .loop .inv) (c .before .wide .ensures) (c .if1 .left) .within, good)
+    let page = jump-page pre (c .before .before .before .loop .inv) (c .before .wide .ensures) (c .if1 .left) in
+    omega (arith, page .within, good)
 
 shared-slice-read-if2 : tie.Need-shared-slice-read-if2 Inv-loop μ-loop
 shared-slice-read-if2 c =
     let pre = c .before .before .before .before .before .before .before .before .before .pre in
-    omega (arith, jump-page pre (c .before .before .before .before .loop .inv) (c .before .before .wide .ensures) (c .before .if1 .left) .within)
+    let page = jump-page pre (c .before .before .before .before .loop .inv) (c .before .before .wide .ensures) (c .before .if1 .left) in
+    omega (arith, page .within)
 
 add-if2 : tie.Need-add-if2 Inv-loop μ-loop
 add-if2 c =
