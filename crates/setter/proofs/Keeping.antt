@@ -21,7 +21,8 @@ use Rattle.breaks.specs.Asks.{SetAsks}
 use Rattle.pages.specs.Asks.{PageAsk}
 
 -- ---- what the checks found, for limits that hold or not
-module _ (held : Bool) (ws has needs : List ℕ) {hold : Bool} {found : Checked} (h : hold ≡ held) (f : found ≡ checked hold ws has needs) where
+module _ (held : Bool) (ws has needs : List ℕ) {hold : Bool} {found : Checked} (h : hold ≡ held)
+    (f : found ≡ checked hold ws has needs) where
   pub found-is : {c : Checked} → found ≡ c → checked held ws has needs ≡ c
   found-is e = rw (← h) (sym f ∙ e)
 

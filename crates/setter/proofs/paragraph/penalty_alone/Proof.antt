@@ -27,7 +27,8 @@ returns-3 : tie.Need-returns-3
 unfolding penaltyAlone
 returns-3 c =
     let at = c .before .before in
-    answers (rw (← at .before .limits-hold .ensures, at .if1 .left, le-ltb mostAlone _ (c .before .if2 .left)) (ap Of (c .penalty .ensures)))
+    answers (rw (← at .before .limits-hold .ensures, at .if1 .left, le-ltb mostAlone _ (c .before .if2 .left))
+    (ap Of (c .penalty .ensures)))
 
 pub penalty-alone-spec : {M : Type 1} → statement M
 penalty-alone-spec =
