@@ -36,5 +36,5 @@ computed = (refl, refl)
 pub index-shut-out : ShutOut (λ s. s .sums) (λ s. s .best) (λ s. s .boundaries) entry G1 G3 2 1 3
 index-shut-out =
     rw (computed .0)
-    (shut-out (λ s. s .sums) (λ s. s .best) (λ s. s .boundaries) entry computed-G1 G3 2 1 3 refl (λ e. omega arith) (λ e. omega arith)
+    (shut-out refl (λ e. omega arith) (λ e. omega arith)
     (λ e. let z : _≡_ {A = ℕ} 3 1 = ap (λ (l : List ℕ). getD l 0 0) (rw (computed .1) at e) in omega arith))

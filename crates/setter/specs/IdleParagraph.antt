@@ -36,5 +36,5 @@ computed = (refl, refl)
 pub paragraph-shut-out : ShutOut (λ s. s .sums) (λ s. s .best) (λ s. s .breaks) entry P1 P2 13 3 7
 paragraph-shut-out =
     rw (computed .0)
-    (shut-out (λ s. s .sums) (λ s. s .best) (λ s. s .breaks) entry computed-P1 P2 13 3 7 refl (λ e. omega arith) (λ e. omega arith)
+    (shut-out refl (λ e. omega arith) (λ e. omega arith)
     (λ e. let z : _≡_ {A = ℕ} 2 3 = ap (λ (l : List ℕ). getD l 1 0) (rw (computed .1) at e) in omega arith))

@@ -9,4 +9,4 @@ tell-refusal-spec =
     tie.close
     (tie.spec
     (λ c κs. search needs)
-    (λ c. let why = c .told-refusal .ensures in rw (number-and-place _, why .is-number, why .is-place)))
+    (λ c. let why = c .told-refusal .ensures in rw (number-and-place _, ← why .is-number, ← why .is-place)))

@@ -4,6 +4,7 @@ use borrow.Author.Needs.{needs}
 use borrow.Author.Tests.{lt-ltb, le-ltb, not-false}
 use Rattle.laws.specs.Outcome.{answers}
 use Rattle.paper.specs.declared.Penalty.the-variants.{Of}
+use Rattle.paper.specs.Allowed.{mostAlone}
 use Rattle.paper.specs.Told.{penaltyAlone}
 use Rattle.paper_theory.specs.Ranges.{ranges}
 use Rattle.setter.proofs.paragraph.penalty_alone.Statement.{statement}
@@ -15,7 +16,7 @@ returns c = answers (rw (← c .before .limits-hold .ensures, c .if1 .taken))
 
 returns-2 : tie.Need-returns-2
 unfolding penaltyAlone
-returns-2 c = answers (rw (← c .before .before .limits-hold .ensures, c .before .if1 .left, lt-ltb _ _ (c .if2 .taken)))
+returns-2 c = answers (rw (← c .before .before .limits-hold .ensures, c .before .if1 .left, lt-ltb mostAlone _ (c .if2 .taken)))
 
 penalty-requires : tie.Need-penalty-requires
 penalty-requires c κs =
@@ -26,7 +27,8 @@ returns-3 : tie.Need-returns-3
 unfolding penaltyAlone
 returns-3 c =
     let at = c .before .before in
-    answers (rw (← at .before .limits-hold .ensures, at .if1 .left, le-ltb _ _ (c .before .if2 .left)) (ap Of (c .penalty .ensures)))
+    answers (rw (← at .before .limits-hold .ensures, at .if1 .left, le-ltb mostAlone _ (c .before .if2 .left))
+    (ap Of (c .penalty .ensures)))
 
 pub penalty-alone-spec : {M : Type 1} → statement M
 penalty-alone-spec =

@@ -1,9 +1,7 @@
 -- `setter::set_paragraph` meets its contract. Assumes nothing.
-use mathlib.Core.Path.{refl, sym, _∙_}
 use borrow.Author.Needs.{needs}
-use Rattle.laws.specs.Outcome.{answers}
 use Rattle.paper.specs.Strips.{paragraphChecked, paragraphOutcome}
-use Rattle.setter.proofs.Keeping.{paragraph-passes}
+use Rattle.setter.proofs.Keeping.{found-is, refusal-kept, setting-kept, paragraph-passes}
 use Rattle.setter.proofs.paragraph.set_paragraph.Statement.{statement}
 use Rattle.setter.proofs.paragraph.set_paragraph.Tie as tie
 
@@ -12,14 +10,14 @@ unfolding paragraphOutcome paragraphChecked
 returns c =
     let check = c .before .before .before in
     let hold = check .before .before .before .limits-hold in
-    rw (← hold .ensures, ← check .check .ensures, c .before .checked .given .1) (record { tells = answers refl; strips = refl })
+    refusal-kept _ _ _ _ (hold .ensures) (check .check .ensures) _ _ (c .before .checked .given .1)
 
 set-requires : tie.Need-set-requires
 set-requires c κs =
     let told = c .before .before .before .before .before .before in
     let check = told .before .before in
     let hold = check .before .before .before .limits-hold in
-    paragraph-passes _ _ _ (rw (← hold .ensures) (sym (check .check .ensures) ∙ told .enum-told .given .1))
+    paragraph-passes _ _ _ (found-is _ _ _ _ (hold .ensures) (check .check .ensures) (told .enum-told .given .1))
 
 returns-2 : tie.Need-returns-2
 unfolding paragraphOutcome paragraphChecked
@@ -28,8 +26,8 @@ returns-2 c =
     let told = set .before .before .before .before .before .before .before in
     let check = told .before .before in
     let hold = check .before .before .before .limits-hold in
-    rw (← hold .ensures, ← check .check .ensures, told .enum-told .given .1)
-    (record { tells = answers (set .set .ensures .tells); strips = set .set .ensures .strips })
+    let is = set .set .ensures in
+    setting-kept _ _ _ _ (hold .ensures) (check .check .ensures) _ _ (told .enum-told .given .1) (is .tells) (is .strips)
 
 pub set-paragraph-spec : {M : Type 1} → statement M
 set-paragraph-spec =
