@@ -165,8 +165,10 @@ pub fn set(
     requires { ⌜ SetAsks l (now lengths)
         (paragraphStrips (now sums) (now best) (now next) (now queue) (now moves) (now breaks)) ⌝ }
     ensures { λ r. ⌜ IsSet l (now (lengths .entry))
-        (paragraphStrips (now (sums .entry)) (now (best .entry)) (now (next .entry)) (now (queue .entry)) (now (moves .entry)) (now (breaks .entry)))
-        r (paragraphStrips (now (sums .exit)) (now (best .exit)) (now (next .exit)) (now (queue .exit)) (now (moves .exit)) (now (breaks .exit))) ⌝ }
+        (paragraphStrips (now (sums .entry)) (now (best .entry)) (now (next .entry)) (now (queue .entry)) (now (moves .entry))
+        (now (breaks .entry))) r
+        (paragraphStrips (now (sums .exit)) (now (best .exit)) (now (next .exit)) (now (queue .exit)) (now (moves .exit))
+        (now (breaks .exit))) ⌝ }
 {
     let taken = fill(l, lengths, sums, best, next, queue, moves);
     let total = best[0];

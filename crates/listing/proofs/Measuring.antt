@@ -69,5 +69,10 @@ module _ {l : Limits} {ws S : List ℕ} {i j : ℕ} (a : LineAsks l ws S i j) wh
       pub paid-is : {p : ℕ} → p ≡ penalty l x → LineIs l ws i j (record { length = y; cost = p })
       paid-is e = record {
         length = ey ∙ length-is;
-        cost = rw (charge-is l ws i j, ← length-is, not-both (eqb j (end ws)) (leb x (l .lopt)) (⊎-elim inr (λ h. inl (ne-eqb j (end ws) h)) paid)) e;
+        cost = rw (
+          charge-is l ws i j,
+          ← length-is,
+          not-both (eqb j (end ws)) (leb x (l .lopt))
+              (⊎-elim inr (λ h. inl (ne-eqb j (end ws) h)) paid),
+        ) e;
       }

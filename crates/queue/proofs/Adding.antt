@@ -18,7 +18,8 @@ use Rattle.strips.specs.Running.{joined-ran}
 use Rattle.strips.specs.Single.{ran-move}
 use Rattle.queue.specs.Asks.{ShedAsks, NewAt, WorsePopped, PopBridgedAsks, BridgesAt, BridgedPopped, Start, textAt, Inside}
 use Rattle.queue.specs.Asks.{AddAsks, Adds}
-use Rattle.queue.proofs.Members.{member-index, inside-through, inside-three, cost-in, queued-each, queued-below, queued-falls, queued-sheds}
+use Rattle.queue.proofs.Members.{member-index, inside-through, inside-three, cost-in, queued-each, queued-below, queued-falls}
+use Rattle.queue.proofs.Members.{queued-sheds}
 
 -- the index, its place in the strip, and its move's place fit
 pub record Fitted (j : ℕ) (Q : List ℕ) (at taken room : ℕ) : Type 0 where
@@ -88,7 +89,8 @@ module _ {s : Start} {j : ℕ} {new : Break} {q : Part} {t room : ℕ} (a : AddA
           candidate = j;
           each = λ p low high.
               rw (a .consider .read)
-              (bridged-in (s .limits) (s .ends) (s .best) (begins (s .limits) (s .measure)) j (getD (q .strip) (p + 1) 0) (getD (q .strip) p 0)
+              (bridged-in (s .limits) (s .ends) (s .best) (begins (s .limits) (s .measure)) j (getD (q .strip) (p + 1) 0)
+              (getD (q .strip) p 0)
               (rw (a .consider .read) at (three p low (omega (arith, worse .high)))));
         }
 
@@ -115,7 +117,9 @@ module _ {s : Start} {j : ℕ} {new : Break} {q : Part} {t room : ℕ} (a : AddA
                   let pops = joined-ran (popWorse (textAt s) i j (reverse (listed q))) (popBridged (textAt s) j) t m₀ m₁ (w .moves)
                   (reverse (listed (part (q .strip) (q .from) (w .at)))) (worse .ran (new-at i before)) m₂ (b .moves) rest
                   (omega (arith, a .consider .enough)) (popped .ran bridges-at) in
-                  let all = joined-ran (joined (popWorse (textAt s) i j (reverse (listed q))) (popBridged (textAt s) j)) (added j) t m₀ m₂ (b .moves) rest
-                  pops n (b .moves + 1) (reverse (j ∷ rest)) (omega (arith, a .consider .enough)) (ran-move (omega (arith, adding-fits .left)) put) in
+                  let all = joined-ran (joined (popWorse (textAt s) i j (reverse (listed q))) (popBridged (textAt s) j)) (added j) t m₀ m₂
+                  (b .moves) rest
+                  pops n (b .moves + 1) (reverse (j ∷ rest)) (omega (arith, a .consider .enough))
+                  (ran-move (omega (arith, adding-fits .left)) put) in
                   rw stands all;
             }

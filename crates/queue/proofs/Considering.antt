@@ -47,7 +47,8 @@ module _ {s : Start} {j : ℕ} {new : Break} {q : Part} {t room : ℕ} (a : Cons
     }
 
   module _ {m₀ : List ℕ} {r : Reached} {m : List ℕ} (p : Passes j (q .to) t m₀ m r) where
-    passed : ((i : ℕ) → i < j → consider (textAt s) i j (listed q) ≡ moved (move Pass j) (still (listed q))) → Considers s j q t m₀ r (q .strip) m
+    passed : ((i : ℕ) → i < j → consider (textAt s) i j (listed q) ≡ moved (move Pass j) (still (listed q))) →
+        Considers s j q t m₀ r (q .strip) m
     passed rule = record {
       low = omega (arith, p .stays, a .queued .order);
       high = omega (arith, p .stays);

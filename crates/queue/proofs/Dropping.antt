@@ -59,7 +59,8 @@ pub record Leading (l : Limits) (goal : ℕ) (E B : List ℕ) (q : Part) (t : �
   pub some : r < q .to
   pub is : cost ≡ costAt l goal (breakIn E B (getD (q .strip) r 0))
 
-module _ {l : Limits} {goal : ℕ} {E B : List ℕ} {q : Part} {t : ℕ} {m₀ : List ℕ} (asks : ShedAsks (Through l goal E B) q t (length m₀)) where
+module _ {l : Limits} {goal : ℕ} {E B : List ℕ} {q : Part} {t : ℕ} {m₀ : List ℕ}
+    (asks : ShedAsks (Through l goal E B) q t (length m₀)) where
   pub lead-first : {cost : ℕ} → q .from < q .to → cost ≡ costAt l goal (breakIn E B (getD (q .strip) (q .from) 0)) →
       Leading l goal E B q t m₀ m₀ (q .from) t cost
   lead-first some is = record { shed = shed-first asks; some = some; is = is }
@@ -76,7 +77,8 @@ module _ {l : Limits} {goal : ℕ} {E B : List ℕ} {q : Part} {t : ℕ} {m₀ :
     first : slice r (q .to) (q .strip) ≡ getD (q .strip) r 0 ∷ slice (r + 1) (q .to) (q .strip)
     first = part-front (q .strip) (asks .standing) (inv .some)
 
-    two : r + 1 < q .to → slice r (q .to) (q .strip) ≡ getD (q .strip) r 0 ∷ getD (q .strip) (r + 1) 0 ∷ slice (r + 1 + 1) (q .to) (q .strip)
+    two : r + 1 < q .to →
+        slice r (q .to) (q .strip) ≡ getD (q .strip) r 0 ∷ getD (q .strip) (r + 1) 0 ∷ slice (r + 1 + 1) (q .to) (q .strip)
     two more = rw (first, part-front (q .strip) (asks .standing) more)
 
     front-cost : (y : CostsAt l goal E B q) → cost ≡ F (y .text) (y .start) (getD (q .strip) r 0)

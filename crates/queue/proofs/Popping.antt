@@ -43,14 +43,16 @@ module _ {l : Limits} {goal : ℕ} {E B : List ℕ} {cost : ℕ} {q : Part} {t :
     worse-more le put =
         shed-rear asks inv some put (λ z.
         rw (rear some)
-        (popWorse-more (z .costs .text) (z .costs .start) (z .candidate) (getD (q .strip) (r - 1) 0) (reverse (slice (q .from) (r - 1) (q .strip)))
+        (popWorse-more (z .costs .text) (z .costs .start) (z .candidate) (getD (q .strip) (r - 1) 0)
+        (reverse (slice (q .from) (r - 1) (q .strip)))
         (rw (z .is, rear-cost z) at le)))
 
     pub worse-stop : x < cost → WorsePopped l goal E B cost q t m₀ m (record { at = r; moves = u })
     worse-stop lt =
         shed-done asks inv (λ z.
         rw (rear some)
-        (popWorse-stop (z .costs .text) (z .costs .start) (z .candidate) (getD (q .strip) (r - 1) 0) (reverse (slice (q .from) (r - 1) (q .strip)))
+        (popWorse-stop (z .costs .text) (z .costs .start) (z .candidate) (getD (q .strip) (r - 1) 0)
+        (reverse (slice (q .from) (r - 1) (q .strip)))
         (rw (z .is, rear-cost z) at lt)))
 
   pub worse-none : r ≤ q .from → WorsePopped l goal E B cost q t m₀ m (record { at = r; moves = u })
@@ -81,7 +83,8 @@ module _ {l : Limits} {E B : List ℕ} {new : Break} {q : Part} {t : ℕ} {m₀ 
         getD (q .strip) (r - 1) 0 ∷ getD (q .strip) (r - 2) 0 ∷ reverse (slice (q .from) (r - 2) (q .strip))
     rear-two = last (omega arith) ∙ ap (λ (p : List ℕ). getD (q .strip) (r - 1) 0 ∷ p) next
 
-    module _ {k n : Break} (at-rear : k ≡ breakIn E B (getD (q .strip) (r - 1) 0)) (before : n ≡ breakIn E B (getD (q .strip) (r - 2) 0)) where
+    module _ {k n : Break} (at-rear : k ≡ breakIn E B (getD (q .strip) (r - 1) 0))
+        (before : n ≡ breakIn E B (getD (q .strip) (r - 2) 0)) where
       pub bridge-three : Three l new k n
       bridge-three =
           let up : r - 2 + 1 ≡ r - 1 = omega arith in
@@ -95,7 +98,8 @@ module _ {l : Limits} {E B : List ℕ} {new : Break} {q : Part} {t : ℕ} {m₀ 
           let same = z .each (r - 2) (omega arith) (omega (arith, inv .high)) in
           sym (rw up at same) ∙ sym (rw (at-rear, before) at is) ∙ e
 
-      pub bridge-more : {b : Bool} {o : List ℕ} → b ≡ bridgedAt l new k n → b ≡ true → o ≡ set m u (code (move Pop (getD (q .strip) (r - 1) 0))) →
+      pub bridge-more : {b : Bool} {o : List ℕ} → b ≡ bridgedAt l new k n → b ≡ true →
+          o ≡ set m u (code (move Pop (getD (q .strip) (r - 1) 0))) →
           BridgedPopping l E B new q t m₀ o (r - 1) (u + 1)
       bridge-more is holds put =
           shed-rear (asks .shed) inv (omega arith) put (λ z.

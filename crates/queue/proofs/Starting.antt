@@ -19,7 +19,8 @@ use Rattle.queue.specs.declared.Front.{Front}
 use Rattle.queue.specs.declared.Rear.{Rear}
 use Rattle.queue.specs.Asks.{ShedAsks, LongAt, LongDropped, CostsAt, WorseDropped, Start, textAt, Member, Inside}
 use Rattle.queue.specs.Asks.{CandidatesAsk, CandidatesLeave, RulesAsk, StartLeaves}
-use Rattle.queue.proofs.Members.{member-index, inside-through, past-in, cost-in, queued-each, queued-below, queued-falls, queued-rest, queued-sheds}
+use Rattle.queue.proofs.Members.{member-index, inside-through, past-in, cost-in, queued-each, queued-below, queued-falls}
+use Rattle.queue.proofs.Members.{queued-rest, queued-sheds}
 
 module _ {s : Start} {i : ℕ} {q : Part} {c room : ℕ} (a : RulesAsk (Member s) s i q c 0 room) where
   pub starting-long : ShedAsks (Indexed (s .ends)) q 0 room
@@ -51,7 +52,12 @@ module _ {s : Start} {i : ℕ} {q : Part} {c room : ℕ} (a : RulesAsk (Member s
         (split p (w .at)) in
         record {
           member = m;
-          high = omega (arith, d .short (omega arith), a .readable .rising (getD (q .strip) p 0 - 1) (getD (q .strip) (w .at) 0 - 1) (omega arith) (omega (arith, front .within, queued-below (a .queued) p (omega (arith, d .dropped .low)) high)));
+          high = omega (
+            arith,
+            d .short (omega arith),
+            a .readable .rising (getD (q .strip) p 0 - 1) (getD (q .strip) (w .at) 0 - 1)
+                (omega arith) (omega (arith, front .within, queued-below (a .queued) p (omega (arith, d .dropped .low)) high)),
+          );
         }
 
     pub starting-candidates : length m₁ ≡ room → CandidatesAsk s i rest c (w .moves) (length m₁)
@@ -83,7 +89,8 @@ module _ {s : Start} {i : ℕ} {q : Part} {c room : ℕ} (a : RulesAsk (Member s
       pub starting-worse : length m₂ ≡ room →
           ShedAsks (Through (s .limits) (s .measure .goal) (s .ends) (s .best)) two (r .moves) (length m₂)
       starting-worse same =
-          queued-sheds (g .queued) (omega arith) (g .queued .order) (omega arith) (omega (arith, g .same, a .readable .few)) (omega (arith, enough))
+          queued-sheds (g .queued) (omega arith) (g .queued .order) (omega arith) (omega (arith, g .same, a .readable .few))
+          (omega (arith, enough))
           (λ k below m. (inside-through (a .readable) (omega arith) m, member-index (a .readable) (m .member)))
 
       costs-at : CostsAt (s .limits) (s .measure .goal) (s .ends) (s .best) two
@@ -91,7 +98,8 @@ module _ {s : Start} {i : ℕ} {q : Part} {c room : ℕ} (a : RulesAsk (Member s
         text = textAt s;
         start = i;
         each = λ p low high.
-            cost-in (a .readable) i (getD Q₂ p 0) (omega (arith, queued-below (g .queued) p low high, g .near)) (queued-each (g .queued) p low high);
+            cost-in (a .readable) i (getD Q₂ p 0) (omega (arith, queued-below (g .queued) p low high, g .near))
+            (queued-each (g .queued) p low high);
       }
 
       -- rule 3 left the part from place f on
@@ -106,15 +114,18 @@ module _ {s : Start} {i : ℕ} {q : Part} {c room : ℕ} (a : RulesAsk (Member s
             let one = joined-ran (dropLong (textAt s) i (listed q)) (candidates (textAt s) i c) 0 m₀ m₁ (w .moves) (listed rest)
             (d .dropped .ran long-at) m₂ (r .moves) (record { queue = listed two; candidate = r .candidate }) (omega arith) (g .ran) in
             let end = joined-ran (dropWorse (textAt s) i (listed two)) after (r .moves) m₂ m₃ (f .moves) (listed three) last m₃ (f .moves)
-            (record { queue = listed three; candidate = r .candidate }) (omega (arith, enough)) (ran-still (omega (arith, enough, e .dropped .count))) in
+            (record { queue = listed three; candidate = r .candidate }) (omega (arith, enough))
+            (ran-still (omega (arith, enough, e .dropped .count))) in
             record {
               left = record {
                 same = g .same;
                 queued = queued-rest (g .queued) (e .dropped .low) (e .dropped .order)
                     (λ p low high. queued-each (g .queued) p (omega (arith, e .dropped .low)) high .member);
                 near = g .near;
-                ran = joined-ran (joined (dropLong (textAt s) i (listed q)) (candidates (textAt s) i c)) (settled (textAt s) i) 0 m₀ m₂ (r .moves)
-                    (record { queue = listed two; candidate = r .candidate }) one m₃ (f .moves) (record { queue = listed three; candidate = r .candidate })
+                ran = joined-ran (joined (dropLong (textAt s) i (listed q)) (candidates (textAt s) i c)) (settled (textAt s) i) 0 m₀ m₂
+                    (r .moves)
+                    (record { queue = listed two; candidate = r .candidate }) one m₃ (f .moves)
+                    (record { queue = listed three; candidate = r .candidate })
                     (omega arith) end;
               };
               cost = e .cost costs-at;

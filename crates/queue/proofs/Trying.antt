@@ -62,7 +62,12 @@ module _ {s : Start} {i : ℕ} {q : Part} {c t : ℕ} {m₀ : List ℕ} (a : Can
     -- the candidate is the start itself, or before it
     pub trying-end : j ≤ i → CandidatesLeave s i q c t m₀ (record { at = r; candidate = j; moves = u }) Q m
     trying-end h =
-        done (omega (arith, no-line-in (s .limits) (s .ends) (s .best) (begins (s .limits) (s .measure)) i j h, a .readable .ranges .lmin-low))
+        done (omega (
+          arith,
+          no-line-in (s .limits) (s .ends) (s .best)
+              (begins (s .limits) (s .measure)) i j h,
+          a .readable .ranges .lmin-low,
+        ))
 
     module _ (after : i < j) where
       pub trying-index : Indexed (s .ends) j
@@ -121,7 +126,8 @@ module _ {s : Start} {i : ℕ} {q : Part} {c t : ℕ} {m₀ : List ℕ} (a : Can
               consider-gives (textAt s) i j (listed now) (λ (t : Taken (List ℕ)). Falls (t .stands)) (λ pass. g .queued .falls)
               (λ high has. add-falls (textAt s) i j (listed now) (g .queued .below) (g .queued .falls))
 
-          pub trying-more : {o : Reached} {Q′ n : List ℕ} → Considers s j now u m o Q′ n → Trying s i q c t m₀ Q′ n (o .at) (j - 1) (o .moves)
+          pub trying-more : {o : Reached} {Q′ n : List ℕ} → Considers s j now u m o Q′ n →
+              Trying s i q c t m₀ Q′ n (o .at) (j - 1) (o .moves)
           unfolding textIn
           trying-more {o} {Q′} {n} d =
               let rule : Taken (List ℕ) = consider (textAt s) i j (listed now) in
@@ -135,7 +141,8 @@ module _ {s : Start} {i : ℕ} {q : Part} {c t : ℕ} {m₀ : List ℕ} (a : Can
               record {
                 run = running-rule _ t m₀ m u rule (candidates (textAt s) i (j - 1)) n (o .moves) (listed (part Q′ (q .from) (o .at)))
                     (running-same _ t m₀ m u
-                    (candidates-more (textAt s) i (j - 1) j (listed now) (omega arith) (omega (arith, line, end-is, a .readable .placed .near)))
+                    (candidates-more (textAt s) i (j - 1) j (listed now) (omega arith)
+                    (omega (arith, line, end-is, a .readable .placed .near)))
                     (g .run))
                     ran (omega (arith, room));
                 queued = record {

@@ -84,7 +84,8 @@ pub record NewAt (l : Limits) (goal : ℕ) (E B : List ℕ) (cost : ℕ) (q : Pa
 
 abbrev pub WorsePopped : Limits → ℕ → List ℕ → List ℕ → ℕ → Part → ℕ → List ℕ → List ℕ → Reached → Type 0
 WorsePopped l goal E B cost q t m₀ m r =
-    Popped (λ (x : NewAt l goal E B cost q). popWorse (x .costs .text) (x .costs .start) (x .candidate) (reverse (listed q))) q t m₀ m (r .at) (r .moves)
+    Popped (λ (x : NewAt l goal E B cost q). popWorse (x .costs .text) (x .costs .start) (x .candidate) (reverse (listed q))) q t m₀ m
+    (r .at) (r .moves)
 
 pub record PopBridgedAsks (l : Limits) (E B : List ℕ) (new : Break) (q : Part) (t room : ℕ) : Type 0 where
   pub shed : ShedAsks (Indexed E) q t room
@@ -196,7 +197,8 @@ pub record RulesAsk (P : ℕ → Type 0) (s : Start) (i : ℕ) (q : Part) (c t r
   pub near : i ≤ c
   pub enough : t + (q .to - q .from) + 2 * (c - 1) ≤ room
 
-pub record RulesLeave (P : ℕ → Type 0) (i : ℕ) (rule : Taken Standing) (Q : List ℕ) (t : ℕ) (m₀ m : List ℕ) (q : Part) (c u : ℕ) : Type 0 where
+pub record RulesLeave (P : ℕ → Type 0) (i : ℕ) (rule : Taken Standing) (Q : List ℕ) (t : ℕ) (m₀ m : List ℕ) (q : Part)
+    (c u : ℕ) : Type 0 where
   pub same : length (q .strip) ≡ length Q
   pub queued : Queued P q c
   pub near : i ≤ c

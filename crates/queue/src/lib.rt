@@ -55,7 +55,8 @@ fn drop_long(
     count: usize,
 ) -> Reached
     requires { ⌜ ShedAsks (Indexed (now ends)) (part (now queue) front end) count (length (now moves)) ⌝ }
-    ensures { λ r. ⌜ LongDropped (now (ends .entry)) far (part (now (queue .entry)) front end) count (now (moves .entry)) (now (moves .exit)) r ⌝ }
+    ensures { λ r. ⌜ LongDropped (now (ends .entry)) far (part (now (queue .entry)) front end) count
+        (now (moves .entry)) (now (moves .exit)) r ⌝ }
 {
     let mut at = front;
     let mut taken = count;
@@ -314,7 +315,8 @@ fn candidates(
     count: usize,
 ) -> Rear
     requires { ⌜ CandidatesAsk (start l p (now ends) (now best)) i (part (now queue) front end) candidate count (length (now moves)) ⌝ }
-    ensures { λ r. ⌜ CandidatesLeave (start l p (now (ends .entry)) (now (best .entry))) i (part (now (queue .entry)) front end) candidate count
+    ensures { λ r. ⌜ CandidatesLeave (start l p (now (ends .entry)) (now (best .entry))) i (part (now (queue .entry)) front end)
+        candidate count
         (now (moves .entry)) r (now (queue .exit)) (now (moves .exit)) ⌝ }
 {
     let mut rear = end;

@@ -11,57 +11,74 @@ pop-worse-requires c κs = adding-worse (c .before .before .before .before .befo
 
 pop-bridged-requires : tie.Need-pop-bridged-requires
 pop-bridged-requires c κs =
-    let first = c .before .before .before .before in
-    adding-bridged (first .before .before .before .before .before .before .before .before .pre) (first .before .before .before .curve .ensures) (first .pop-worse .ensures) (omega (arith, first .pop-worse .kept))
+    let there = c .before .before .before .before in
+    let first = there in
+    adding-bridged (first .before .before .before .before .before .before .before .before .pre)
+    (first .before .before .before .curve .ensures) (first .pop-worse .ensures) (omega (arith, first .pop-worse .kept))
 
 cast-index : tie.Need-cast-index
 cast-index c =
-    let second = c .before .before in
+    let there = c .before .before in
+    let second = there in
     let first = second .before .before .before .before .before in
-    let fits = adding-fits (first .before .before .before .before .before .before .before .before .pre) (first .before .before .before .curve .ensures) (first .pop-worse .ensures) (second .pop-bridged .ensures) in
+    let fits = adding-fits (first .before .before .before .before .before .before .before .before .pre)
+    (first .before .before .before .curve .ensures) (first .pop-worse .ensures) (second .pop-bridged .ensures) in
     omega arith
 
 mul-queue : tie.Need-mul-queue
 mul-queue c =
-    let second = c .before .before in
+    let there = c .before .before in
+    let second = there in
     let first = second .before .before .before .before .before in
-    let fits = adding-fits (first .before .before .before .before .before .before .before .before .pre) (first .before .before .before .curve .ensures) (first .pop-worse .ensures) (second .pop-bridged .ensures) in
+    let fits = adding-fits (first .before .before .before .before .before .before .before .before .pre)
+    (first .before .before .before .curve .ensures) (first .pop-worse .ensures) (second .pop-bridged .ensures) in
     omega arith
 
 slice-write-queue : tie.Need-slice-write-queue
 slice-write-queue c =
-    let second = c .before .before in
+    let there = c .before .before in
+    let second = there in
     let first = second .before .before .before .before .before in
-    let fits = adding-fits (first .before .before .before .before .before .before .before .before .pre) (first .before .before .before .curve .ensures) (first .pop-worse .ensures) (second .pop-bridged .ensures) in
+    let fits = adding-fits (first .before .before .before .before .before .before .before .before .pre)
+    (first .before .before .before .curve .ensures) (first .pop-worse .ensures) (second .pop-bridged .ensures) in
     omega arith
 
 put-requires : tie.Need-put-requires
 put-requires c κs =
-    let second = c .before .before .before in
+    let there = c .before .before .before in
+    let second = there in
     let first = second .before .before .before .before .before in
-    let fits = adding-fits (first .before .before .before .before .before .before .before .before .pre) (first .before .before .before .curve .ensures) (first .pop-worse .ensures) (second .pop-bridged .ensures) in
+    let fits = adding-fits (first .before .before .before .before .before .before .before .before .pre)
+    (first .before .before .before .curve .ensures) (first .pop-worse .ensures) (second .pop-bridged .ensures) in
     record { place = omega (arith, first .pop-worse .kept, second .pop-bridged .kept); index = fits .index }
 
 add-t26 : tie.Need-add-t26
 add-t26 c =
-    let second = c .before .before .before .before .before .before in
+    let there = c .before .before .before .before .before .before in
+    let second = there in
     let first = second .before .before .before .before .before in
-    let fits = adding-fits (first .before .before .before .before .before .before .before .before .pre) (first .before .before .before .curve .ensures) (first .pop-worse .ensures) (second .pop-bridged .ensures) in
+    let fits = adding-fits (first .before .before .before .before .before .before .before .before .pre)
+    (first .before .before .before .curve .ensures) (first .pop-worse .ensures) (second .pop-bridged .ensures) in
     omega arith
 
 add-t33 : tie.Need-add-t33
 add-t33 c =
-    let second = c .before .before .before .before .before .before in
+    let there = c .before .before .before .before .before .before in
+    let second = there in
     let first = second .before .before .before .before .before in
-    let fits = adding-fits (first .before .before .before .before .before .before .before .before .pre) (first .before .before .before .curve .ensures) (first .pop-worse .ensures) (second .pop-bridged .ensures) in
+    let fits = adding-fits (first .before .before .before .before .before .before .before .before .pre)
+    (first .before .before .before .curve .ensures) (first .pop-worse .ensures) (second .pop-bridged .ensures) in
     omega (arith, first .before .before .before .before .before .before .before .before .good)
 
 returns : tie.Need-returns
 returns c =
-    let second = c .before .before .before .before .before .before in
+    let there = c .before .before .before .before .before .before in
+    let put = c .before .before .put in
+    let second = there in
     let first = second .before .before .before .before .before in
-    adding-done (first .before .before .before .before .before .before .before .before .pre) (first .before .before .before .curve .ensures) (first .pop-worse .ensures) (second .pop-bridged .ensures) refl
-    (omega (arith, first .pop-worse .kept, second .pop-bridged .kept)) (c .before .before .put .ensures)
+    adding-done (first .before .before .before .before .before .before .before .before .pre)
+    (first .before .before .before .curve .ensures) (first .pop-worse .ensures) (second .pop-bridged .ensures) refl
+    (omega (arith, first .pop-worse .kept, second .pop-bridged .kept)) (put .ensures)
 
 pub add-spec : {M : Type 1} → statement M
 add-spec =

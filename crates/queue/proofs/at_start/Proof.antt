@@ -11,22 +11,28 @@ drop-long-requires c κs = starting-long (c .before .before .before .before .bef
 
 candidates-requires : tie.Need-candidates-requires
 candidates-requires c κs =
-    let first = c .before .before .before .before in
-    starting-candidates (first .before .before .before .before .before .before .before .pre) (first .drop-long .ensures) (omega (arith, first .drop-long .kept))
+    let there = c .before .before .before .before in
+    let first = there in
+    starting-candidates (first .before .before .before .before .before .before .before .pre) (first .drop-long .ensures)
+    (omega (arith, first .drop-long .kept))
 
 drop-worse-requires : tie.Need-drop-worse-requires
 drop-worse-requires c κs =
-    let second = c .before .before .before .before .before .before in
+    let there = c .before .before .before .before .before .before in
+    let second = there in
     let first = second .before .before .before .before .before in
-    starting-worse (first .before .before .before .before .before .before .before .pre) (first .drop-long .ensures) (second .candidates .ensures)
+    starting-worse (first .before .before .before .before .before .before .before .pre) (first .drop-long .ensures)
+    (second .candidates .ensures)
     (omega (arith, first .drop-long .kept, second .candidates .kept))
 
 returns : tie.Need-returns
 returns c =
-    let third = c .before .before in
+    let there = c .before .before in
+    let third = there in
     let second = third .before .before .before .before .before .before .before in
     let first = second .before .before .before .before .before in
-    starting-done (first .before .before .before .before .before .before .before .pre) (first .drop-long .ensures) (second .candidates .ensures) (third .drop-worse .ensures) refl
+    starting-done (first .before .before .before .before .before .before .before .pre) (first .drop-long .ensures)
+    (second .candidates .ensures) (third .drop-worse .ensures) refl
     (omega (arith, first .drop-long .kept, second .candidates .kept))
     (omega (arith, first .drop-long .kept, second .candidates .kept, third .drop-worse .kept))
 

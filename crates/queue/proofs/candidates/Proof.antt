@@ -31,16 +31,21 @@ break-of-requires c κs =
 
 consider-requires : tie.Need-consider-requires Inv-loop μ-loop
 consider-requires c κs =
-    let turn = c .before .before in
+    let there = c .before .before in
+    let turn = there in
     let at = turn .before .before .before .before .before in
-    trying-asks (at .before .before .before .before .before .pre) (at .loop .inv) (turn .before .before .before .before .loop-test .taken) (turn .before .before .before .break-of .ensures) (turn .if1 .left)
+    trying-asks (at .before .before .before .before .before .pre) (at .loop .inv) (turn .before .before .before .before .loop-test .taken)
+    (turn .before .before .before .break-of .ensures) (turn .if1 .left)
 
 loop-again : tie.Need-loop-again Inv-loop μ-loop
 loop-again c =
-    let turn = c .before .before .before .before .before .before .before in
+    let there = c .before .before .before .before .before .before .before in
+    let consider = c .before .before .before .before .consider in
+    let turn = there in
     let at = turn .before .before .before .before .before in
-    trying-more (at .before .before .before .before .before .pre) (at .loop .inv) (turn .before .before .before .before .loop-test .taken) (turn .before .before .before .break-of .ensures) (turn .if1 .left)
-    (c .before .before .before .before .consider .ensures)
+    trying-more (at .before .before .before .before .before .pre) (at .loop .inv) (turn .before .before .before .before .loop-test .taken)
+    (turn .before .before .before .break-of .ensures) (turn .if1 .left)
+    (consider .ensures)
 
 same-length : tie.Need-same-length Inv-loop μ-loop
 same-length c = c .before .loop .inv .same
@@ -65,8 +70,11 @@ same-length-4 c =
 
 returns-2 : tie.Need-returns-2 Inv-loop μ-loop
 returns-2 c =
-    let at = c .before .before .before .before .before in
-    trying-stop (at .before .before .before .before .before .pre) (at .loop .inv) (c .before .before .before .before .loop-test .taken) (c .before .before .before .break-of .ensures) (c .if1 .taken)
+    let there = c .before .before .before .before .before in
+    let loop-test = c .before .before .before .before .loop-test in
+    let break-of = c .before .before .before .break-of in
+    let at = there in
+    trying-stop (at .before .before .before .before .before .pre) (at .loop .inv) (loop-test .taken) (break-of .ensures) (c .if1 .taken)
 
 pub candidates-spec : {M : Type 1} → statement M
 candidates-spec =

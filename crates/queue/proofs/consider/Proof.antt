@@ -5,20 +5,33 @@ use Rattle.queue.proofs.consider.Statement.{statement}
 use Rattle.queue.proofs.consider.Tie as tie
 
 returns : tie.Need-returns
-returns c = considering-long (c .before .before .before .before .before .before .before .before .before .before .before .pre) (c .before .before .pass .ensures) (c .before .before .before .before .if1 .taken)
+returns c =
+    let pre = c .before .before .before .before .before .before .before .before .before .before .before .pre in
+    let if1 = c .before .before .before .before .if1 in
+    let pass = c .before .before .pass in
+    considering-long pre (pass .ensures) (if1 .taken)
 
 returns-2 : tie.Need-returns-2
-returns-2 c = considering-none (c .before .before .before .before .before .before .before .before .before .before .before .before .before .pre) (c .before .before .pass2 .ensures) (c .before .before .before .before .if2 .taken)
+returns-2 c =
+    let pre = c .before .before .before .before .before .before .before .before .before .before .before .before .before .pre in
+    let if2 = c .before .before .before .before .if2 in
+    let pass2 = c .before .before .pass2 in
+    considering-none pre (pass2 .ensures) (if2 .taken)
 
 add-requires : tie.Need-add-requires
 add-requires c κs =
-    let turn = c .before .before in
-    considering-add (turn .before .before .before .before .before .before .before .before .before .pre) (turn .before .before .if1 .left) (turn .if2 .left)
+    let there = c .before .before in
+    let turn = there in
+    considering-add (turn .before .before .before .before .before .before .before .before .before .pre) (turn .before .before .if1 .left)
+    (turn .if2 .left)
 
 returns-3 : tie.Need-returns-3
 returns-3 c =
-    let turn = c .before .before .before .before .before .before .before in
-    considering-done (turn .before .before .before .before .before .before .before .before .before .pre) (turn .before .before .if1 .left) (turn .if2 .left) (c .before .before .before .before .add .ensures)
+    let there = c .before .before .before .before .before .before .before in
+    let add = c .before .before .before .before .add in
+    let turn = there in
+    considering-done (turn .before .before .before .before .before .before .before .before .before .pre) (turn .before .before .if1 .left)
+    (turn .if2 .left) (add .ensures)
 
 pub consider-spec : {M : Type 1} → statement M
 consider-spec =

@@ -10,7 +10,8 @@ use Rattle.queue.proofs.drop_long.Statement.{statement}
 use Rattle.queue.proofs.drop_long.Tie as tie
 
 abbrev Inv-loop : tie.InvT-loop
-Inv-loop far ends queue front end moves₀ count at₀ taken₀ moves at taken = LongDropping ends far (part queue front end) count moves₀ moves at taken
+Inv-loop far ends queue front end moves₀ count at₀ taken₀ moves at taken = LongDropping ends far
+    (part queue front end) count moves₀ moves at taken
 
 abbrev μ-loop : tie.MeasureT-loop
 μ-loop far ends queue front end moves₀ count at₀ taken₀ moves at taken = end - at
@@ -32,10 +33,13 @@ put-requires c κs =
 
 loop-again : tie.Need-loop-again Inv-loop μ-loop
 loop-again c =
-    let turn = c .before .before .before .before in
+    let there = c .before .before .before .before in
+    let put = c .before .before .put in
+    let turn = there in
     let at = turn .before .before .before .before in
-    long-more (at .before .before .before .before .pre) (at .loop .inv) (turn .before .before .before .loop-test .taken) (turn .before .end-of .ensures) (turn .if1 .left)
-    (c .before .before .put .ensures)
+    long-more (at .before .before .before .before .pre) (at .loop .inv) (turn .before .before .before .loop-test .taken)
+    (turn .before .end-of .ensures) (turn .if1 .left)
+    (put .ensures)
 
 same-length : tie.Need-same-length Inv-loop μ-loop
 same-length c = c .before .loop .inv .same
@@ -50,8 +54,11 @@ same-length-2 c = c .before .before .before .before .loop .inv .same
 
 returns-2 : tie.Need-returns-2 Inv-loop μ-loop
 returns-2 c =
-    let at = c .before .before .before .before in
-    long-stop (at .before .before .before .before .pre) (at .loop .inv) (c .before .before .before .loop-test .taken) (c .before .end-of .ensures) (c .if1 .taken)
+    let there = c .before .before .before .before in
+    let loop-test = c .before .before .before .loop-test in
+    let end-of = c .before .end-of in
+    let at = there in
+    long-stop (at .before .before .before .before .pre) (at .loop .inv) (loop-test .taken) (end-of .ensures) (c .if1 .taken)
 
 pub drop-long-spec : {M : Type 1} → statement M
 drop-long-spec =

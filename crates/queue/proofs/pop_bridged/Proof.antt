@@ -12,7 +12,8 @@ use Rattle.queue.proofs.pop_bridged.Statement.{statement}
 use Rattle.queue.proofs.pop_bridged.Tie as tie
 
 abbrev Inv-loop : tie.InvT-loop
-Inv-loop l ends best queue front end new moves₀ count at₀ taken₀ moves at taken = BridgedPopping l ends best new (part queue front end) count moves₀ moves at taken
+Inv-loop l ends best queue front end new moves₀ count at₀ taken₀ moves at taken = BridgedPopping l ends best new
+    (part queue front end) count moves₀ moves at taken
 
 abbrev μ-loop : tie.MeasureT-loop
 μ-loop l ends best queue front end new moves₀ count at₀ taken₀ moves at taken = at
@@ -36,27 +37,46 @@ break-of-requires-2 c κs =
 
 bridged-requires : tie.Need-bridged-requires Inv-loop μ-loop
 bridged-requires c κs =
-    let at = c .before .before .before .before .before in
-    bridge-three (at .before .before .before .before .before .pre) (at .loop .inv) (c .before .before .before .before .loop-test .taken) (c .before .break-of .ensures) (c .break-of2 .ensures)
+    let there = c .before .before .before .before .before in
+    let loop-test = c .before .before .before .before .loop-test in
+    let break-of = c .before .break-of in
+    let at = there in
+    bridge-three (at .before .before .before .before .before .pre) (at .loop .inv) (loop-test .taken) (break-of .ensures)
+    (c .break-of2 .ensures)
 
 put-requires : tie.Need-put-requires Inv-loop μ-loop
 put-requires c κs =
-    let at = c .before .before .before .before .before .before .before .before in
-    let more = c .before .before .before .before .before .before .before .loop-test .taken in
-    shed-put (at .before .before .before .before .before .pre .shed) (at .loop .inv) Pop (at .loop .at - 1) (omega arith) (omega (arith, at .loop .inv .high)) (omega arith)
+    let there = c .before .before .before .before .before .before .before .before in
+    let loop-test = c .before .before .before .before .before .before .before .loop-test in
+    let at = there in
+    let more = loop-test .taken in
+    shed-put (at .before .before .before .before .before .pre .shed) (at .loop .inv) Pop (at .loop .at - 1) (omega arith)
+    (omega (arith, at .loop .inv .high)) (omega arith)
 
 add-taken : tie.Need-add-taken Inv-loop μ-loop
 add-taken c =
-    let at = c .before .before .before .before .before .before .before .before .before .before .before in
-    let more = c .before .before .before .before .before .before .before .before .before .before .loop-test .taken in
-    omega (arith, shed-room (at .before .before .before .before .before .pre .shed) (at .loop .inv) (omega arith), at .loop .inv .same, at .before .before .before .before .before .good)
+    let there = c .before .before .before .before .before .before .before .before .before .before .before in
+    let loop-test = c .before .before .before .before .before .before .before .before .before .before .loop-test in
+    let at = there in
+    let more = loop-test .taken in
+    omega (
+      arith,
+      shed-room (at .before .before .before .before .before .pre .shed) (at .loop .inv)
+          (omega arith),
+      at .loop .inv .same,
+      at .before .before .before .before .before .good,
+    )
 
 loop-again : tie.Need-loop-again Inv-loop μ-loop
 loop-again c =
-    let turn = c .before .before .before .before in
+    let there = c .before .before .before .before in
+    let put = c .before .before .put in
+    let turn = there in
     let at = turn .before .before .before .before .before .before .before in
-    bridge-more (at .before .before .before .before .before .pre) (at .loop .inv) (turn .before .before .before .before .before .before .loop-test .taken) (turn .before .before .before .break-of .ensures) (turn .before .before .break-of2 .ensures)
-    (turn .before .bridged .ensures) (not-false (turn .before .bridged .result) (turn .if1 .left)) (c .before .before .put .ensures)
+    bridge-more (at .before .before .before .before .before .pre) (at .loop .inv)
+    (turn .before .before .before .before .before .before .loop-test .taken) (turn .before .before .before .break-of .ensures)
+    (turn .before .before .break-of2 .ensures)
+    (turn .before .bridged .ensures) (not-false (turn .before .bridged .result) (turn .if1 .left)) (put .ensures)
 
 same-length : tie.Need-same-length Inv-loop μ-loop
 same-length c = c .before .loop .inv .same
@@ -71,9 +91,15 @@ same-length-2 c = c .before .before .before .before .before .before .before .loo
 
 returns-2 : tie.Need-returns-2 Inv-loop μ-loop
 returns-2 c =
-    let at = c .before .before .before .before .before .before .before in
-    bridge-stop (at .before .before .before .before .before .pre) (at .loop .inv) (c .before .before .before .before .before .before .loop-test .taken) (c .before .before .before .break-of .ensures) (c .before .before .break-of2 .ensures)
-    (c .before .bridged .ensures) (not-true (c .before .bridged .result) (c .if1 .taken))
+    let there = c .before .before .before .before .before .before .before in
+    let loop-test = c .before .before .before .before .before .before .loop-test in
+    let break-of = c .before .before .before .break-of in
+    let break-of2 = c .before .before .break-of2 in
+    let bridged = c .before .bridged in
+    let at = there in
+    bridge-stop (at .before .before .before .before .before .pre) (at .loop .inv) (loop-test .taken) (break-of .ensures)
+    (break-of2 .ensures)
+    (bridged .ensures) (not-true (bridged .result) (c .if1 .taken))
 
 pub pop-bridged-spec : {M : Type 1} → statement M
 pop-bridged-spec =
