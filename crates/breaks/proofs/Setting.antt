@@ -17,9 +17,9 @@ use Rattle.paper_theory.specs.Cheapest.{chosen-lines, chosen-none}
 use Rattle.paper_theory.specs.Ranges.{Ranges, ranges}
 use Rattle.strips.specs.Asks.{FollowAsk, Followed}
 use Rattle.strips.specs.Costs.{entry-none, entry-some}
-use Rattle.strips.specs.Chain.{nextIn, chain, Leads, chosen-leads, chain-all}
+use Rattle.strips.specs.Chain.{nextIn, chain, LeadsOn, chosen-leads, chain-all}
 use Rattle.strips.specs.Filling.{length-ended, entry-read}
-use Rattle.breaks.specs.Asks.{bestAt, bests, nexts, Filled, SetAsks, IsSet}
+use Rattle.breaks.specs.Asks.{bestAt, bests, nexts, Filled, SetAsks, BreaksSet}
 
 module _ {l : Limits} {ws : List ℕ} {s : ParagraphStrips} {S B N Q m : List ℕ} {count : ℕ} (a : SetAsks l ws s)
     (f : Filled l ws (s .sums) (s .best) (s .next) (s .queue) (s .moves) count S B N Q m) where
@@ -43,7 +43,7 @@ module _ {l : Limits} {ws : List ℕ} {s : ParagraphStrips} {S B N Q m : List �
   written-strips found b is = rw (f .sums, f .best, f .next, f .queue, f .moves, is)
 
   module _ {x : ℕ} (e : x ≡ getD B 0 0) where
-    pub setting-none : x ≡ 2 ^ 64 - 1 → IsSet l ws s (None count) (paragraphStrips S B N Q m (s .breaks))
+    pub setting-none : x ≡ 2 ^ 64 - 1 → BreaksSet l ws s (None count) (paragraphStrips S B N Q m (s .breaks))
     unfolding paragraphSet
     setting-none h =
         rw (entry-none (best l ws 1) x (e ∙ first-best) number h)
@@ -58,7 +58,7 @@ module _ {l : Limits} {ws : List ℕ} {s : ParagraphStrips} {S B N Q m : List �
       held k low high = entry-read (chosenNext l ws) 1 n (0 ∷ []) (nexts l ws) (s .next) N (f .next) refl k (k - 1) (omega arith)
           (omega arith)
 
-      leads : Leads N 1 n 1
+      leads : LeadsOn N 1 n 1
       unfolding best chosenNext lines settings Lines.best
       leads =
           let p = lines l ws in
@@ -79,7 +79,7 @@ module _ {l : Limits} {ws : List ℕ} {s : ParagraphStrips} {S B N Q m : List �
       }
 
       pub setting-set : {found : ℕ} {b : List ℕ} → Followed (chain N 1 n 1) (s .breaks) b found →
-          IsSet l ws s (Set x found count) (paragraphStrips S B N Q m b)
+          BreaksSet l ws s (Set x found count) (paragraphStrips S B N Q m b)
       unfolding paragraphSet breaks Lines.breaks lines chosenNext
       setting-set {found} {b} followed =
           let is : chain N 1 n 1 ≡ breaks l ws = chain-all N 1 n (chosenNext l ws) held 1 leads (omega (arith, a .fill .passed .words)) in

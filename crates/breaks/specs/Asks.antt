@@ -120,5 +120,5 @@ pub record SetAsks (l : Limits) (ws : List ℕ) (s : ParagraphStrips) : Type 0 w
   pub breaks : length ws ≤ length (s .breaks)
 
 -- the answer and the strips are those of the outcome
-abbrev pub IsSet : Limits → List ℕ → ParagraphStrips → Answer → ParagraphStrips → Type 0
-IsSet l ws s answer exit = Promise Is (paragraphSet l ws s (Paragraph.best l ws 1)) answer exit
+abbrev pub BreaksSet : Limits → List ℕ → ParagraphStrips → Answer → ParagraphStrips → Type 0
+BreaksSet l ws s answer exit = Promise Is (paragraphSet l ws s (Paragraph.best l ws 1)) answer exit

@@ -11,7 +11,7 @@ use strips::fill_sums;
 use strips::follow;
 ghost use Rattle.paper.specs.Strips.{paragraphStrips};
 ghost use Rattle.breaks.specs.Asks.{ChooseAsks, Chooses, SettleAsks, Settles, ShortAsks, Begun, StartsAsk, Starts};
-ghost use Rattle.breaks.specs.Asks.{FillAsks, Filled, SetAsks, IsSet};
+ghost use Rattle.breaks.specs.Asks.{FillAsks, Filled, SetAsks, BreaksSet};
 
 // The best of a start and its chosen next.
 pub struct Chosen {
@@ -164,7 +164,7 @@ pub fn set(
 ) -> Answer
     requires { ⌜ SetAsks l (now lengths)
         (paragraphStrips (now sums) (now best) (now next) (now queue) (now moves) (now breaks)) ⌝ }
-    ensures { λ r. ⌜ IsSet l (now (lengths .entry))
+    ensures { λ r. ⌜ BreaksSet l (now (lengths .entry))
         (paragraphStrips (now (sums .entry)) (now (best .entry)) (now (next .entry)) (now (queue .entry)) (now (moves .entry))
         (now (breaks .entry))) r
         (paragraphStrips (now (sums .exit)) (now (best .exit)) (now (next .exit)) (now (queue .exit)) (now (moves .exit))

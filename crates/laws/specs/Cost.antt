@@ -102,14 +102,14 @@ before-has f c (some n) h = tt
 -- ---- the least cost over a set
 module _ {S : Type 0} (P : S → Type 0) (v : S → Cost) where
   -- none, or the cost of a member
-  abbrev pub Reached : Cost → Type 0
-  Reached none = Unit {0}
-  Reached (some t) = (s : S) × P s × (v s ≡ some t)
+  abbrev pub Attained : Cost → Type 0
+  Attained none = Unit {0}
+  Attained (some t) = (s : S) × P s × (v s ≡ some t)
 
   -- the least cost of the members of P; none where no member has a number
   pub record Least (c : Cost) : Type 0 where
     pub low : (s : S) → P s → c ≼ v s
-    pub reached : Reached c
+    pub reached : Attained c
 
   pub least-unique : (c d : Cost) → Least c → Least d → c ≡ d
   least-unique c d p q = ≼-antisym c d (below c d p q) (below d c q p)
@@ -125,7 +125,7 @@ least-wider P Q v f none d p q = tt
 least-wider P Q v f (some t) d p q = subst (λ (z : Cost). d ≼ z) (p .reached .2)
     (q .low (p .reached .0) (f (p .reached .0) (p .reached .1)))
 
-pub reached-map : {S : Type 0} (P Q : S → Type 0) (v : S → Cost) → ((s : S) → P s → Q s) → (c : Cost) → Reached P v c → Reached Q v c
+pub reached-map : {S : Type 0} (P Q : S → Type 0) (v : S → Cost) → ((s : S) → P s → Q s) → (c : Cost) → Attained P v c → Attained Q v c
 reached-map P Q v f none r = tt
 reached-map P Q v f (some t) r = (r .0, f (r .0) (r .1), r .2)
 

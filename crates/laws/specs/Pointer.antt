@@ -8,7 +8,7 @@ use mathlib.Core.Bool.{true, false, not}
 use native.Mathlib.Omega.{arith}
 use lib.Dec.{T, T-not, not-T}
 use Rattle.laws.specs.Number.{split}
-use Rattle.laws.specs.Cost.{Cost, none, some, _≼_, ≼-refl, ≼-trans, ≼-total, leq, leq→≼, ≼→leq, Has, before, Reached, least-unique}
+use Rattle.laws.specs.Cost.{Cost, none, some, _≼_, ≼-refl, ≼-trans, ≼-total, leq, leq→≼, ≼→leq, Has, before, Attained, least-unique}
 use Rattle.laws.specs.Search.{Tie, smallest, largest, Ahead, Found, Missing, Picked}
 use Rattle.laws.specs.Setting.{Problem, Choice, through}
 use Rattle.laws.specs.Table.{best, best-steps}
@@ -290,7 +290,7 @@ module _ (p : Problem) (i : ℕ) (early : i < p .end) where
   abbrev via : ℕ → Cost
   via = through p (best p) i
 
-  reached : (r : ℕ) (c : Cost) → Choice p i r → via r ≡ c → Reached (Choice p i) via c
+  reached : (r : ℕ) (c : Cost) → Choice p i r → via r ≡ c → Attained (Choice p i) via c
   reached r none ch e = tt
   reached r (some v) ch e = (r, ch, e)
 

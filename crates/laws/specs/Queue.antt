@@ -50,7 +50,7 @@ abbrev pub Wins : (ℕ → ℕ → ℕ) → (ℕ → ℕ) → ℕ → ℕ → �
 Wins F E m y c k = Live E m k y × Beats F y k c
 
 -- at x, with every candidate from lo on considered; listed from front to rear
-pub record Queue (F : ℕ → ℕ → ℕ) (E : ℕ → ℕ) (m : ℕ) (Ok : ℕ → Type 0) (x lo : ℕ) (q : List ℕ) : Type 0 where
+pub record Kept (F : ℕ → ℕ → ℕ) (E : ℕ → ℕ) (m : ℕ) (Ok : ℕ → Type 0) (x lo : ℕ) (q : List ℕ) : Type 0 where
   pub falls : Falls q
   pub ok : Every Ok q
   pub order : Threes (λ (a b c : ℕ). Ordered F E m x c b a) q
@@ -94,11 +94,11 @@ module _ (F : ℕ → ℕ → ℕ) (E : ℕ → ℕ) (m : ℕ) where
 module _ {F : ℕ → ℕ → ℕ} {E : ℕ → ℕ} {m : ℕ} {Ok : ℕ → Type 0} where
   -- ---- the queue between moves
   -- no candidate yet
-  pub nothing : {x lo : ℕ} → ((c : ℕ) → lo ≤ c → ¬ Ok c) → Queue F E m Ok x lo []
+  pub nothing : {x lo : ℕ} → ((c : ℕ) → lo ≤ c → ¬ Ok c) → Kept F E m Ok x lo []
   nothing nobody = record { falls = tt; ok = tt; order = tt; above = tt; cover = λ y c le from has. absurd (nobody c from has) }
 
   -- the next start
-  pub later : {x y lo : ℕ} {q : List ℕ} → y ≤ x → Queue F E m Ok x lo q → Queue F E m Ok y lo q
+  pub later : {x y lo : ℕ} {q : List ℕ} → y ≤ x → Kept F E m Ok x lo q → Kept F E m Ok y lo q
   later {x} {y} {q = q} le u = record {
     falls = u .falls;
     ok = u .ok;
@@ -109,8 +109,8 @@ module _ {F : ℕ → ℕ → ℕ} {E : ℕ → ℕ} {m : ℕ} {Ok : ℕ → Typ
   }
 
   -- Pass: a candidate that will never be live and have a cost
-  pub pass : {x lo n : ℕ} {q : List ℕ} → n + 1 ≡ lo → ((y : ℕ) → y ≤ x → Ok n → ¬ Live E m n y) → Queue F E m Ok x lo q →
-      Queue F E m Ok x n q
+  pub pass : {x lo n : ℕ} {q : List ℕ} → n + 1 ≡ lo → ((y : ℕ) → y ≤ x → Ok n → ¬ Live E m n y) → Kept F E m Ok x lo q →
+      Kept F E m Ok x n q
   pass {lo = lo} {n = n} {q = q} e never u = record {
     falls = u .falls;
     ok = u .ok;
@@ -124,7 +124,7 @@ module _ {F : ℕ → ℕ → ℕ} {E : ℕ → ℕ} {m : ℕ} {Ok : ℕ → Typ
   }
 
   -- Drop: the front is not live, here and from here on
-  pub drop-long : {x lo h : ℕ} {q : List ℕ} → x + m < E h → Queue F E m Ok x lo (h ∷ q) → Queue F E m Ok x lo q
+  pub drop-long : {x lo h : ℕ} {q : List ℕ} → x + m < E h → Kept F E m Ok x lo (h ∷ q) → Kept F E m Ok x lo q
   drop-long {x} {h = h} {q = q} long u = record {
     falls = u .falls .1;
     ok = u .ok .1;
@@ -138,7 +138,7 @@ module _ {F : ℕ → ℕ → ℕ} {E : ℕ → ℕ} {m : ℕ} {Ok : ℕ → Typ
       keep y c le (inr w) = w
 
   -- the candidate n comes
-  pub come : {x lo n : ℕ} {q : List ℕ} → n + 1 ≡ lo → Ok n → Queue F E m Ok x lo q → Adding F E m Ok x n (reverse q)
+  pub come : {x lo n : ℕ} {q : List ℕ} → n + 1 ≡ lo → Ok n → Kept F E m Ok x lo q → Adding F E m Ok x n (reverse q)
   come {x} {lo} {n} {q} e has u = record {
     rises = pairs-reverse (λ (a b : ℕ). b < a) q (u .falls);
     ok = every-reverse Ok q (u .ok);
@@ -153,7 +153,7 @@ module _ {F : ℕ → ℕ → ℕ} {E : ℕ → ℕ} {m : ℕ} {Ok : ℕ → Typ
   }
 
   -- Add: the candidate n stands rightly before the rear and its neighbour
-  pub add : {x n : ℕ} {q : List ℕ} → Threes (Ordered F E m x) (n ∷ q) → Adding F E m Ok x n q → Queue F E m Ok x n (reverse (n ∷ q))
+  pub add : {x n : ℕ} {q : List ℕ} → Threes (Ordered F E m x) (n ∷ q) → Adding F E m Ok x n q → Kept F E m Ok x n (reverse (n ∷ q))
   add {x} {n} {q} order u = record {
     falls = pairs-reverse (λ (a b : ℕ). a < b) (n ∷ q) (u .above, u .rises);
     ok = every-reverse Ok (n ∷ q) (u .new, u .ok);
@@ -165,7 +165,7 @@ module _ {F : ℕ → ℕ → ℕ} {E : ℕ → ℕ} {m : ℕ} {Ok : ℕ → Typ
 
   module _ (laws : Laws F E Ok) where
     -- Drop: the one behind the front is no worse
-    pub drop-worse : {x lo h s : ℕ} {q : List ℕ} → F s x ≤ F h x → Queue F E m Ok x lo (h ∷ s ∷ q) → Queue F E m Ok x lo (s ∷ q)
+    pub drop-worse : {x lo h s : ℕ} {q : List ℕ} → F s x ≤ F h x → Kept F E m Ok x lo (h ∷ s ∷ q) → Kept F E m Ok x lo (s ∷ q)
     drop-worse {x} {h = h} {s = s} {q = q} le u = record {
       falls = u .falls .1;
       ok = u .ok .1;
@@ -227,7 +227,7 @@ module _ {F : ℕ → ℕ → ℕ} {E : ℕ → ℕ} {m : ℕ} {Ok : ℕ → Typ
 
   -- ---- the choice
   -- The front is the choice: it beats every candidate that is live.
-  pub front-least : {x lo h : ℕ} {q : List ℕ} → Queue F E m Ok x lo (h ∷ q) → Every (λ (k : ℕ). Live E m k x) (h ∷ q) → Leads F x (h ∷ q) →
+  pub front-least : {x lo h : ℕ} {q : List ℕ} → Kept F E m Ok x lo (h ∷ q) → Every (λ (k : ℕ). Live E m k x) (h ∷ q) → Leads F x (h ∷ q) →
       (c : ℕ) → lo ≤ c → Ok c → Live E m c x → Beats F x h c
   front-least {x} {h = h} {q = q} u live lt c from has alive = go (u .cover x c (omega arith) from has alive)
     where
@@ -242,5 +242,5 @@ module _ {F : ℕ → ℕ → ℕ} {E : ℕ → ℕ} {m : ℕ} {Ok : ℕ → Typ
           (λ k v g. (v, g)) q w behind)
 
   -- An empty queue: no candidate is live.
-  pub empty-none : {x lo : ℕ} → Queue F E m Ok x lo [] → (c : ℕ) → lo ≤ c → Ok c → ¬ Live E m c x
+  pub empty-none : {x lo : ℕ} → Kept F E m Ok x lo [] → (c : ℕ) → lo ≤ c → Ok c → ¬ Live E m c x
   empty-none {x} u c from has live = u .cover x c (omega arith) from has live

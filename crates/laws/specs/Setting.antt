@@ -9,7 +9,7 @@ use native.Mathlib.Nat.{mul-le-mul-right}
 use native.Mathlib.Omega.{arith}
 use lib.Dec.{T}
 use Rattle.laws.specs.Number.{split}
-use Rattle.laws.specs.Cost.{Cost, none, some, _≼_, ≼-refl, ≼-trans, some-inj, some-not-none, before, before-mono, Reached, Least}
+use Rattle.laws.specs.Cost.{Cost, none, some, _≼_, ≼-refl, ≼-trans, some-inj, some-not-none, before, before-mono, Attained, Least}
 use Rattle.laws.specs.Cost.{least-unique}
 
 -- A line goes from a start up to a later start or to the end. `fits` says which lines are admissible, `cost` what one
@@ -85,7 +85,7 @@ module _ (p : Problem) (Rest : ℕ → List ℕ → Type 0) (paid : ℕ → List
       (early : (j : ℕ) (js : List ℕ) → Rest j js → j < p .end)
       (later : (j : ℕ) → Choice p i j → j < p .end → Least (Rest j) (λ (js : List ℕ). some (paid j js)) (b j)) where
     abbrev Reaches : Cost → Type 0
-    Reaches c = Reached (First i) (λ (js : List ℕ). some (firstTotal i js)) c
+    Reaches c = Attained (First i) (λ (js : List ℕ). some (firstTotal i js)) c
 
     step-low : (c : Cost) → Step p b i c → (js : List ℕ) → First i js → c ≼ some (firstTotal i js)
     step-low c s [] h =
@@ -100,7 +100,7 @@ module _ (p : Problem) (Rest : ℕ → List ℕ → Type 0) (paid : ℕ → List
         let f : through p b i (p .end) ≡ some t = subst (λ (k : ℕ). through p b i k ≡ some t) e w in
         ([], subst (Choice p i) e ch, sym (ap (λ (a : Cost). before (p .join) (p .cost i (p .end)) a) ends) ∙ f)
 
-    line-reached : (t j : ℕ) → Choice p i j → (a : Cost) → Reached (Rest j) (λ (js : List ℕ). some (paid j js)) a →
+    line-reached : (t j : ℕ) → Choice p i j → (a : Cost) → Attained (Rest j) (λ (js : List ℕ). some (paid j js)) a →
         before (p .join) (p .cost i j) a ≡ some t → Reaches (some t)
     line-reached t j ch none r e = absurd (some-not-none (sym e))
     line-reached t j ch (some u) r e =
@@ -136,8 +136,8 @@ module _ (p : Problem) (mono : Monotone p) (b : ℕ → Cost) (ends : b (p .end)
       low (j ∷ js) h = l .low (j ∷ js) h
 
       reached : (c : Cost) →
-          Reached (First p (Admissible p) (total p) i) (λ (js : List ℕ). some (firstTotal p (Admissible p) (total p) i js)) c →
-          Reached (Admissible p i) (λ (js : List ℕ). some (total p i js)) c
+          Attained (First p (Admissible p) (total p) i) (λ (js : List ℕ). some (firstTotal p (Admissible p) (total p) i js)) c →
+          Attained (Admissible p i) (λ (js : List ℕ). some (total p i js)) c
       reached none r = tt
       reached (some t) ([], h, e) = ([], h, e)
       reached (some t) (j ∷ js, h, e) = (j ∷ js, h, e)

@@ -9,7 +9,7 @@ use native.Mathlib.Omega.{arith}
 use lib.Dec.{T}
 use lib.ListN.{length, getD}
 use Rattle.laws.specs.Number.{split}
-use Rattle.laws.specs.Cost.{Cost, none, some, _≼_, ≼-refl, ≼-trans, before, Reached, reached-map, Least, lower, lower-left}
+use Rattle.laws.specs.Cost.{Cost, none, some, _≼_, ≼-refl, ≼-trans, before, Attained, reached-map, Least, lower, lower-left}
 use Rattle.laws.specs.Cost.{lower-right, lower-cases}
 use Rattle.laws.specs.Setting.{Problem, Monotone, Choice, Best, best-unique, through, Step, bellman}
 
@@ -43,11 +43,11 @@ module _ (p : Problem) (b : ℕ → Cost) (i : ℕ) where
       go true t = rw (e, f) (≼-refl (through p b i j))
       go false t = absurd t
 
-  offer-reached : (j : ℕ) (a : Cost) → a ≡ b j → i < j → j ≤ p .end → Reached (From j) (through p b i) (offer p i j a)
+  offer-reached : (j : ℕ) (a : Cost) → a ≡ b j → i < j → j ≤ p .end → Attained (From j) (through p b i) (offer p i j a)
   offer-reached j a e lt le = go (p .fits i j) (λ t. t) a e
     where
       go : (t : Bool) → (T t → T (p .fits i j)) → (a : Cost) → a ≡ b j →
-          Reached (From j) (through p b i) (elim t [ true ↦ before (p .join) (p .cost i j) a | false ↦ none ])
+          Attained (From j) (through p b i) (elim t [ true ↦ before (p .join) (p .cost i j) a | false ↦ none ])
       go false f a e = tt
       go true f none e = tt
       go true f (some u) e = (
@@ -70,9 +70,9 @@ module _ (p : Problem) (b : ℕ → Cost) (i : ℕ) where
         (split k j)
 
     abbrev Reaching : Cost → Type 0
-    Reaching c = Reached (From j) (through p b i) c
+    Reaching c = Attained (From j) (through p b i) c
 
-    more-reached : Reached (From j) (through p b i) (cheapest p i j (a ∷ bs))
+    more-reached : Attained (From j) (through p b i) (cheapest p i j (a ∷ bs))
     more-reached =
         ⊎-elim
         (λ e. subst Reaching (sym e) (offer-reached j a here lt le))

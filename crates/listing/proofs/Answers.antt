@@ -76,12 +76,12 @@ unfolding checked firstShort
 all-long hold ws has needs room = ⊎-elim (λ h. rw (room h)) (λ h. rw (lt-ltb mostWords (length ws) h)) (split (length ws) mostWords)
 
 -- each strip has what it needs
-abbrev pub Roomy : List ℕ → List ℕ → Type 0
-Roomy [] ns = Unit {0}
-Roomy (h ∷ hs) [] = Unit {0}
-Roomy (h ∷ hs) (n ∷ ns) = (n ≤ h) × Roomy hs ns
+abbrev pub ListRoom : List ℕ → List ℕ → Type 0
+ListRoom [] ns = Unit {0}
+ListRoom (h ∷ hs) [] = Unit {0}
+ListRoom (h ∷ hs) (n ∷ ns) = (n ≤ h) × ListRoom hs ns
 
-roomy : (k : ℕ) (has needs : List ℕ) → Roomy has needs → firstShort k has needs ≡ 0
+roomy : (k : ℕ) (has needs : List ℕ) → ListRoom has needs → firstShort k has needs ≡ 0
 unfolding firstShort
 roomy k [] ns r = refl
 roomy k (h ∷ hs) [] r = refl
@@ -121,7 +121,7 @@ module _ {Strips : Type 0} (asked : Asked) (ws : List ℕ) (sumsOf startsOf : St
     (sums-over : (v : ℕ) → least asked ws ≡ some v → sumsOf (strips Accept) ≡ over (sums ws) (sumsOf lent))
     (starts-over : (v : ℕ) → least asked ws ≡ some v → startsOf (strips Accept) ≡ over (starts asked ws) (startsOf lent))
     (sums-room : mostWords + 1 ≤ length (sumsOf lent)) (starts-room : mostWords ≤ length (startsOf lent))
-    (room : length ws ≤ mostWords → Roomy has needs) where
+    (room : length ws ≤ mostWords → ListRoom has needs) where
   at-cost : checked (holds asked) ws [] [] ≡ Accept → (b : Cost) → least asked ws ≡ b →
       Answered asked ws (sumsOf (strips Accept)) (startsOf (strips Accept)) (costAnswer b)
   unfolding askedListing checkedListing costListing

@@ -17,7 +17,7 @@ use Rattle.paper.specs.Strips.{bestEntry, IndexStrips, indexStrips, indexWritte
 use Rattle.paper_theory.specs.Cheapest.{chosen-index}
 use Rattle.pointer_theory.specs.Numbers.{best-none}
 use Rattle.strips.specs.Asks.{FollowAsk, Followed}
-use Rattle.strips.specs.Chain.{nextIn, chain, Leads, leads-rises, leads-on, chain-later, chosen-leads}
+use Rattle.strips.specs.Chain.{nextIn, chain, LeadsOn, leads-rises, leads-on, chain-later, chosen-leads}
 use Rattle.strips.specs.Filling.{length-ended, entry-read}
 use Rattle.pointer.specs.Held.{bestAt}
 use Rattle.pointer.specs.Asks.{PointerStrips}
@@ -68,14 +68,14 @@ module _ {l : PageLimits} {ws : List ℕ} {s : IndexStrips} (a : PageAsk l ws s)
         go (some v) e f = e ∙ ap some (sym f)
 
     -- the nexts lead on from 0
-    leads : Leads (t .next) 0 (length ws) 0
+    leads : LeadsOn (t .next) 0 (length ws) 0
     unfolding Index.best index
     leads =
         chosen-leads (index l ws) (λ i. largest) (Index.chosenNext l ws) (chosen-index l ws) no-next (t .next) 0 (length ws) refl next-is 0
         (omega arith) (λ h. has-some best-is)
 
     module _ {w : ℕ} (first : w ≡ getD (t .next) 0 0) where
-      leads-first : Leads (t .next) 0 (length ws) w
+      leads-first : LeadsOn (t .next) 0 (length ws) w
       leads-first = rw first (leads-on (t .next) 0 (length ws) 0 leads (omega arith))
 
       pub page-follows : FollowAsk (t .next) 0 (length ws) w (s .boundaries)
@@ -93,6 +93,6 @@ module _ {l : PageLimits} {ws : List ℕ} {s : IndexStrips} (a : PageAsk l ws s)
           let e : w ≡ Index.chosenNext l ws 0 = first ∙ next-is 0 (omega arith) (omega arith) in
           let c : chain (t .next) 0 (length ws) w ≡ Index.boundaries l ws =
           ap (chain (t .next) 0 (length ws)) e
-          ∙ chain-later (t .next) 0 (length ws) (Index.chosenNext l ws) next-is 0 (subst (Leads (t .next) 0 (length ws)) e leads-first) in
+          ∙ chain-later (t .next) 0 (length ws) (Index.chosenNext l ws) next-is 0 (subst (LeadsOn (t .next) 0 (length ws)) e leads-first) in
           let z = written (Index.boundaries l ws) Z (f .is ∙ ap (λ (b : List ℕ). over b (s .boundaries)) c) in
           rw (best-is, f .counted, c, d .count, z)

@@ -17,21 +17,21 @@ use Rattle.paper.specs.Index.{index}
 
 -- ---- the rows
 -- "Limits in the order lmin, lopt, lmax, A, or lmin, lmax."
-pub data Asked : Type 0 where
-  para : ℕ → ℕ → ℕ → ℕ → Asked
-  list : ℕ → ℕ → Asked
+pub data RowLimits : Type 0 where
+  para : ℕ → ℕ → ℕ → ℕ → RowLimits
+  list : ℕ → ℕ → RowLimits
 
 -- the total, and the breaks or boundaries
-pub data Outcome : Type 0 where
-  found : ℕ → List ℕ → Outcome
-  NONE : Outcome
+pub data RowOutcome : Type 0 where
+  found : ℕ → List ℕ → RowOutcome
+  NONE : RowOutcome
 
 pub record Row : Type 0 where
-  pub asked : Asked
+  pub asked : RowLimits
   pub lengths : List ℕ
-  pub outcome : Outcome
+  pub outcome : RowOutcome
 
-abbrev row : Asked → List ℕ → Outcome → Row
+abbrev row : RowLimits → List ℕ → RowOutcome → Row
 row a ws o = record { asked = a; lengths = ws; outcome = o }
 
 abbrev pub table : List Row
@@ -58,7 +58,7 @@ table =
 abbrev pub Sets : Problem → (ℕ → Tie) → ℕ → ℕ → List ℕ → Type 0
 Sets p tie i v js = Best p i (some v) × Follows p tie i js
 
-abbrev pub Given : Asked → List ℕ → Outcome → Type 0
+abbrev pub Given : RowLimits → List ℕ → RowOutcome → Type 0
 Given (para lmin lopt lmax a) ws NONE = Best (paragraph (limits lmin lopt lmax a) ws) 1 none
 Given (para lmin lopt lmax a) ws (found v []) = ⊥
 Given (para lmin lopt lmax a) ws (found v (s ∷ js)) =
@@ -66,20 +66,20 @@ Given (para lmin lopt lmax a) ws (found v (s ∷ js)) =
 Given (list lmin lmax) ws NONE = Best (index (pageLimits lmin lmax) ws) 0 none
 Given (list lmin lmax) ws (found v js) = Sets (index (pageLimits lmin lmax) ws) (λ i. largest) 0 v js
 
-abbrev pub Holds : Row → Type 0
-Holds r = Given (r .asked) (r .lengths) (r .outcome)
+abbrev pub RowHolds : Row → Type 0
+RowHolds r = Given (r .asked) (r .lengths) (r .outcome)
 
 -- each row of a list
-abbrev pub Each : (Row → Type 0) → List Row → Type 0
-Each P [] = Unit {0}
-Each P (r ∷ rs) = P r × Each P rs
+abbrev pub EachRow : (Row → Type 0) → List Row → Type 0
+EachRow P [] = Unit {0}
+EachRow P (r ∷ rs) = P r × EachRow P rs
 
 -- ---- what is computed
-abbrev pub outcomeOf : Cost → List ℕ → Outcome
+abbrev pub outcomeOf : Cost → List ℕ → RowOutcome
 outcomeOf none js = NONE
 outcomeOf (some v) js = found v js
 
-unfoldable pub computed : Asked → List ℕ → Outcome
+unfoldable pub computed : RowLimits → List ℕ → RowOutcome
 computed (para lmin lopt lmax a) ws = outcomeOf (Paragraph.best (limits lmin lopt lmax a) ws 1)
     (Paragraph.breaks (limits lmin lopt lmax a) ws)
 computed (list lmin lmax) ws = outcomeOf (Index.best (pageLimits lmin lmax) ws 0) (Index.boundaries (pageLimits lmin lmax) ws)

@@ -16,12 +16,12 @@ use Rattle.paper.specs.Paragraph.{paragraph}
 use Rattle.paper.specs.Index as Index
 use Rattle.paper.specs.Index.{index}
 use Rattle.paper.specs.Allowed.{limitsOf as limits, pageLimitsOf as pageLimits}
-use Rattle.paper.specs.Marked.{Asked, para, list, found, Row, table, Given, Holds, Each, outcomeOf, computed}
+use Rattle.paper.specs.Marked.{RowLimits, para, list, found, Row, table, Given, RowHolds, EachRow, outcomeOf, computed}
 use Rattle.paper.specs.Marked.{rows-computed}
 use Rattle.paper_theory.specs.Cheapest.{best-paragraph, paragraph-cheapest, best-index, index-cheapest}
 
 -- there is a word, and lopt is at most lmax
-abbrev sound : Asked → List ℕ → Bool
+abbrev sound : RowLimits → List ℕ → Bool
 sound (para lmin lopt lmax a) ws = leb lopt lmax && leb 1 (length ws)
 sound (list lmin lmax) ws = true
 
@@ -43,7 +43,7 @@ list-given lmin lmax ws (some v) e =
     let l : PageLimits = pageLimits lmin lmax in
     (subst (Best (index l ws) 0) e (best-index l ws 0 (omega arith)), index-cheapest l ws v e .0)
 
-computed-given : (a : Asked) (ws : List ℕ) → T (sound a ws) → Given a ws (computed a ws)
+computed-given : (a : RowLimits) (ws : List ℕ) → T (sound a ws) → Given a ws (computed a ws)
 unfolding computed
 computed-given (para lmin lopt lmax a) ws t =
     let h = both (leb lopt lmax) (leb 1 (length ws)) t in
@@ -52,11 +52,11 @@ computed-given (para lmin lopt lmax a) ws t =
 computed-given (list lmin lmax) ws t = list-given lmin lmax ws (Index.best (pageLimits lmin lmax) ws 0) refl
 
 each-holds : (rs : List Row) → T (all (λ r. sound (r .asked) (r .lengths)) rs) →
-    map (λ (r : Row). computed (r .asked) (r .lengths)) rs ≡ map (λ (r : Row). r .outcome) rs → Each Holds rs
+    map (λ (r : Row). computed (r .asked) (r .lengths)) rs ≡ map (λ (r : Row). r .outcome) rs → EachRow RowHolds rs
 each-holds [] t e = tt
 each-holds (r ∷ rs) t e =
     let h = both (sound (r .asked) (r .lengths)) (all (λ r. sound (r .asked) (r .lengths)) rs) t in
     (subst (Given (r .asked) (r .lengths)) (cc) (computed-given (r .asked) (r .lengths) (h .0)), each-holds rs (h .1) (cc))
 
-pub marked : Each Holds table
+pub marked : EachRow RowHolds table
 marked = each-holds table tt rows-computed

@@ -7,7 +7,7 @@ use mathlib.Core.List.{List, [], _∷_, reverse}
 use native.Mathlib.Omega.{arith}
 use Rattle.laws.specs.Number.{split, tested}
 use Rattle.laws.specs.Members.{Every, every-reverse, Threes}
-use Rattle.laws.specs.Queue.{Ordered, Leads, Queue, Adding, nothing, later, pass, drop-long, come, drop-worse, pop-worse, pop-useless}
+use Rattle.laws.specs.Queue.{Ordered, Leads, Kept, Adding, nothing, later, pass, drop-long, come, drop-worse, pop-worse, pop-useless}
 use Rattle.laws.specs.Queue as Laws
 use Rattle.paper.specs.Moves.{Taken}
 use Rattle.paper.specs.QueueRules.{Text, Standing, F, bridged, dropLong, popWorse, popBridged, add, consider, candidates, dropWorse}
@@ -23,7 +23,7 @@ use Rattle.queue_theory.specs.Curves.{Settable, G, F-is, laws, bridged-u
 
 -- the queue at start i, with every candidate from lo on considered
 abbrev pub Sound : {t : Text} → Scaled t → ℕ → ℕ → List ℕ → Type 0
-Sound {t} s i lo q = Queue (G s) (s .E) (t .lines .lmax) (Settable t) (s .T i) lo q
+Sound {t} s i lo q = Kept (G s) (s .E) (t .lines .lmax) (Settable t) (s .T i) lo q
 
 -- the same from rear to front, while candidate j waits
 abbrev Waits : {t : Text} → Scaled t → ℕ → ℕ → List ℕ → Type 0

@@ -6,7 +6,7 @@ use native.Mathlib.Omega.{arith}
 use lib.ListN.{length, set, length-append, length-set}
 use Rattle.laws.specs.Strip.{over, over-nil, over-set, append-nil}
 use Rattle.strips.specs.Asks.{FollowAsk, Followed}
-use Rattle.strips.specs.Chain.{nextIn, chain, Leads, leads-rises, leads-on, chain-more, chain-past}
+use Rattle.strips.specs.Chain.{nextIn, chain, LeadsOn, leads-rises, leads-on, chain-more, chain-past}
 
 -- the starts found so far are written, and the rest is still to come from `at` on
 pub record Following (N : List ℕ) (o n first : ℕ) (s₀ s : List ℕ) (at found : ℕ) : Type 0 where
@@ -14,7 +14,7 @@ pub record Following (N : List ℕ) (o n first : ℕ) (s₀ s : List ℕ) (at fo
   pub is : s ≡ over done s₀
   pub count : found ≡ length done
   pub so-far : chain N o n first ≡ done ++ chain N o n at
-  pub leads : Leads N o n at
+  pub leads : LeadsOn N o n at
   pub rose : first + found ≤ at
   pub len : length s ≡ length s₀
 

@@ -8,7 +8,7 @@ use Rattle.laws.specs.Number.{all}
 use Rattle.laws.specs.Strip.{over}
 use Rattle.paper.specs.declared.Move.{Move}
 use Rattle.paper.specs.Allowed.{lengthHolds}
-use Rattle.strips.specs.Chain.{Leads}
+use Rattle.strips.specs.Chain.{LeadsOn}
 
 -- lengths that are allowed, and room for their sums
 pub record SumsAsk (ws s : List ℕ) : Type 0 where
@@ -23,7 +23,7 @@ pub record MoveAsk (moves : List ℕ) (at : ℕ) (m : Move) : Type 0 where
 
 -- nexts that lead from `at` past n, and room for the starts on the way
 pub record FollowAsk (N : List ℕ) (o n at : ℕ) (s : List ℕ) : Type 0 where
-  pub leads : Leads N o n at
+  pub leads : LeadsOn N o n at
   pub held : n < length N + o
   pub few : n ≤ 4096
   pub room : n + 1 ≤ at + length s

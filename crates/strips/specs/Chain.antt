@@ -30,17 +30,17 @@ unfoldable pub chain : List ℕ → ℕ → ℕ → ℕ → List ℕ
 chain N o n at = chained (n + 1 - at) N o n at
 
 -- The nexts lead from `at` past n: a start that has a next has one that is larger, and where that is no end it has a next too.
-pub record Leads (N : List ℕ) (o n at : ℕ) : Type 0 where
+pub record LeadsOn (N : List ℕ) (o n at : ℕ) : Type 0 where
   pub from : o ≤ at
   pub first : at ≤ n → 0 < nextIn N o at
   pub rises : (k : ℕ) → o ≤ k → k ≤ n → 0 < nextIn N o k → k < nextIn N o k
   pub on : (k : ℕ) → o ≤ k → k ≤ n → 0 < nextIn N o k → nextIn N o k ≤ n → 0 < nextIn N o (nextIn N o k)
 
 module _ (N : List ℕ) (o n : ℕ) where
-  pub leads-rises : (at : ℕ) → Leads N o n at → at ≤ n → at < nextIn N o at
+  pub leads-rises : (at : ℕ) → LeadsOn N o n at → at ≤ n → at < nextIn N o at
   leads-rises at e h = e .rises at (e .from) h (e .first h)
 
-  pub leads-on : (at : ℕ) → Leads N o n at → at ≤ n → Leads N o n (nextIn N o at)
+  pub leads-on : (at : ℕ) → LeadsOn N o n at → at ≤ n → LeadsOn N o n (nextIn N o at)
   leads-on at e h = record {
     from = omega (arith, e .from, leads-rises at e h);
     first = λ g. e .on at (e .from) h (e .first h) g;
@@ -58,7 +58,7 @@ module _ (N : List ℕ) (o n : ℕ) where
   chained-more d at h = when-true (leb at n) _ _ (le-leb at n h)
 
   -- more turns than are enough make no difference
-  chained-enough : (d e at : ℕ) → Leads N o n at → n < at + d → n < at + e → chained d N o n at ≡ chained e N o n at
+  chained-enough : (d e at : ℕ) → LeadsOn N o n at → n < at + d → n < at + e → chained d N o n at ≡ chained e N o n at
   chained-enough zero e at leads h g = chained-past zero at (omega arith) ∙ sym (chained-past e at (omega arith))
   chained-enough (suc d) zero at leads h g = chained-past (suc d) at (omega arith) ∙ sym (chained-past zero at (omega arith))
   chained-enough (suc d) (suc e) at leads h g =
@@ -71,7 +71,7 @@ module _ (N : List ℕ) (o n : ℕ) where
       (split at n)
 
   -- ---- one turn
-  pub chain-more : (at : ℕ) → Leads N o n at → at ≤ n → chain N o n at ≡ at ∷ chain N o n (nextIn N o at)
+  pub chain-more : (at : ℕ) → LeadsOn N o n at → at ≤ n → chain N o n at ≡ at ∷ chain N o n (nextIn N o at)
   unfolding chain
   chain-more at leads h =
       let rise = leads-rises at leads h in
@@ -87,7 +87,7 @@ module _ (N : List ℕ) (o n : ℕ) where
 
   -- ---- where the strip holds the nexts f
   module _ (f : ℕ → ℕ) (same : (k : ℕ) → o ≤ k → k ≤ n → nextIn N o k ≡ f k) where
-    chained-follow : (d i : ℕ) → Leads N o n (f i) → chained d N o n (f i) ≡ follow (n + 1) f d i
+    chained-follow : (d i : ℕ) → LeadsOn N o n (f i) → chained d N o n (f i) ≡ follow (n + 1) f d i
     unfolding chained
     chained-follow zero i leads = refl
     chained-follow (suc d) i leads =
@@ -95,23 +95,23 @@ module _ (N : List ℕ) (o n : ℕ) where
         (λ h. let e : nextIn N o (f i) ≡ f (f i) = same (f i) (leads .from) h in
         chained-more d (f i) h
         ∙ ap (λ (l : List ℕ). f i ∷ l)
-        (ap (chained d N o n) e ∙ chained-follow d (f i) (subst (Leads N o n) e (leads-on (f i) leads h)))
+        (ap (chained d N o n) e ∙ chained-follow d (f i) (subst (LeadsOn N o n) e (leads-on (f i) leads h)))
         ∙ sym (when-false (leb (n + 1) (f i)) [] (f i ∷ follow (n + 1) f d (f i)) (lt-leb (n + 1) (f i) (omega arith))))
         (λ h. chained-past (suc d) (f i) h
         ∙ sym (when-true (leb (n + 1) (f i)) [] (f i ∷ follow (n + 1) f d (f i)) (le-leb (n + 1) (f i) (omega arith))))
         (split (f i) n)
 
     -- the later starts after i
-    pub chain-later : (i : ℕ) → Leads N o n (f i) → chain N o n (f i) ≡ follow (n + 1) f (n + 1) i
+    pub chain-later : (i : ℕ) → LeadsOn N o n (f i) → chain N o n (f i) ≡ follow (n + 1) f (n + 1) i
     unfolding chain
     chain-later i leads = chained-enough (n + 1 - f i) (n + 1) (f i) leads (omega arith) (omega arith) ∙ chained-follow (n + 1) i leads
 
     -- i with its later starts
-    pub chain-all : (i : ℕ) → Leads N o n i → i ≤ n → chain N o n i ≡ i ∷ follow (n + 1) f (n + 1) i
+    pub chain-all : (i : ℕ) → LeadsOn N o n i → i ≤ n → chain N o n i ≡ i ∷ follow (n + 1) f (n + 1) i
     chain-all i leads h =
         let e : nextIn N o i ≡ f i = same i (leads .from) h in
         chain-more i leads h
-        ∙ ap (λ (l : List ℕ). i ∷ l) (ap (chain N o n) e ∙ chain-later i (subst (Leads N o n) e (leads-on i leads h)))
+        ∙ ap (λ (l : List ℕ). i ∷ l) (ap (chain N o n) e ∙ chain-later i (subst (LeadsOn N o n) e (leads-on i leads h)))
 
 -- ---- The chosen nexts lead on from each start that has a setting.
 module _ (p : Problem) (tie : ℕ → Tie) (f : ℕ → ℕ)
@@ -125,7 +125,7 @@ module _ (p : Problem) (tie : ℕ → Tie) (f : ℕ → ℕ)
       go (some v) e = has-some e
 
   pub chosen-leads : (N : List ℕ) (o n : ℕ) → p .end ≡ n + 1 → ((k : ℕ) → o ≤ k → k ≤ n → nextIn N o k ≡ f k) → (at : ℕ) → o ≤ at →
-      (at ≤ n → Has (best p at)) → Leads N o n at
+      (at ≤ n → Has (best p at)) → LeadsOn N o n at
   chosen-leads N o n e same at from has = record {
     from = from;
     first = λ h. omega (arith, same at from h, chosen at (omega arith) (has h) .choice .rises);
