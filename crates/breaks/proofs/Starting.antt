@@ -6,7 +6,7 @@ use native.Mathlib.Omega.{arith}
 use borrow.Rule.Slice.PartMut.{putMid}
 use lib.ListN.{length, getD, take, drop, set, length-append, length-drop}
 use lib.Seq.{length-slice, getD-set-other}
-use Rattle.laws.specs.Part.{listed}
+use Rattle.laws.specs.Part.{listed, part-none}
 use Rattle.laws.specs.Strip.{over, onward, over-onward, length-over, lent-is}
 use Rattle.paper.specs.declared.Limits.{Limits}
 use Rattle.paper.specs.Allowed.{limitsHold}
@@ -172,21 +172,28 @@ module _ {l : Limits} {S m₀ Q B N m : List ℕ} {q : Queue} {i : ℕ} (s : Sta
             (s .count ∙ sym (length-codes (soFar l ws i .moves)))
             ∙ ap (λ (c : List ℕ). over c m₀) (sym (ap (map code) more ∙ map-append (soFar l ws i .moves) own))
 
-        pub started-settle : SettleAsks i S Q′ r B N
+        places : length Q′ + 1 ≡ length S
+        places = omega (arith, leaves .left .same, s .queue-size, sized)
+
+        nobody : r .end ≤ r .front → r .cost ≡ 2 ^ 64 - 1
+        unfolding bestEntry
+        nobody none = leaves .cost ∙ rw (part-none Q′ (leaves .left .queued .standing) none)
+
+        pub started-settle : SettleAsks i Q′ r B N
         started-settle = record {
           choose = record {
-            some = omega (arith, sized);
-            few = omega (arith, sized, holds .passed .few);
             standing = leaves .left .queued .standing;
-            short = omega (arith, leaves .left .same, s .queue-size, holds .passed .few);
+            short = omega (arith, places, sized, holds .passed .few);
+            nobody = nobody;
+            number = leaves .number;
           };
           first = first;
-          early = omega (arith, sized, s .low);
-          best = held-bests l S B i (s .done);
-          next = omega (arith, s .nexts .size, sized);
+          early = omega (arith, places, sized, s .low);
+          best = omega (arith, held-bests l S B i (s .done), places);
+          next = omega (arith, s .nexts .size, places, sized);
         }
 
-        module _ (B′ N′ : List ℕ) (w : Settles i (p .goal) S Q′ r B N B′ N′) where
+        module _ (B′ N′ : List ℕ) (w : Settles i (p .goal) (getD S (length S - 1) 0) Q′ r B N B′ N′) where
           takes : (B′ ≡ set B (i - 1) (bestAt l ws i)) × (N′ ≡ set N (i - 1) (chosenNext l ws i))
           takes =
               let q′ : List ℕ = listed (stood Q′ r) in
@@ -194,7 +201,7 @@ module _ {l : Limits} {S m₀ Q B N m : List ℕ} {q : Queue} {i : ℕ} (s : Sta
               holds-rising (limitsHold l) S holds (i - 1) (length S - 1) (omega (arith, sized, s .low)) (omega (arith, sized)) in
               let goal : p .goal ≡ getD S (i - 1) 0 + l .lopt = omega (arith, placed .goal, begun) in
               let cost = rw begun at (leaves .cost) in
-              let u = taken-numbers l S B (getD S (i - 1) 0) i (omega (arith, sized, s .low)) last q′ goal cost in
+              let u = taken-numbers l S B (getD S (i - 1) 0) i (omega (arith, sized, s .low)) last q′ goal cost places in
               let t = held-takes l S B i (s .done) first (s .low) q′ (ap (λ (z : Standing). z .queue) stands) in
               (w .best ∙ ap (set B (i - 1)) (u .0 ∙ ap bestEntry (t .0)), w .next ∙ ap (set N (i - 1)) (u .1 ∙ t .1))
 

@@ -1,13 +1,14 @@
 -- What a start takes, in the values that the code has at hand. Assumes nothing but what each law states.
-use Prim.Native.Nat.{ℕ, _+_, _-_, _≤_, _<_}
+use Prim.Native.Nat.{ℕ, _+_, _-_, _^_, _≤_, _<_}
 use mathlib.Core.Path.{_≡_, refl, sym}
 use mathlib.Core.Bool.{Bool, true, false}
+use mathlib.Core.Logic.{⊎-elim}
 use mathlib.Core.List.{List}
 use native.Mathlib.Omega.{arith}
 use borrow.Author.Tests.{le-leb, lt-leb, lt-ltb, leb-true, leb-false}
 use lib.Dec.{leb}
 use lib.ListN.{length, getD}
-use Rattle.laws.specs.Number.{if}
+use Rattle.laws.specs.Number.{if, split}
 use Rattle.laws.specs.Part.{part-front, part-none}
 use Rattle.paper.specs.declared.Limits.{Limits}
 use Rattle.paper.specs.Lines.{free}
@@ -15,22 +16,28 @@ use Rattle.paper.specs.QueueRules.{frontBest, frontNext, takenBest, takenNext}
 use Rattle.paper.specs.Strips.{bestEntry}
 use Rattle.lines.specs.Held.{textIn}
 use Rattle.queue.specs.declared.Queue.{Queue}
-use Rattle.breaks.specs.Asks.{ChooseAsks, Chooses, short?}
+use Rattle.breaks.specs.Asks.{ChooseAsks, Chooses}
 
-module _ {goal : ℕ} {E Q : List ℕ} {q : Queue} (a : ChooseAsks E Q q) where
-  pub taking-end : getD E (length E - 1) 0 ≤ goal → Chooses goal E Q q (record { cost = 0; next = length E })
-  taking-end h = let e = le-leb (getD E (length E - 1) 0) goal h in record { cost = rw e; next = rw e }
+module _ {Q : List ℕ} {q : Queue} (a : ChooseAsks Q q) where
+  pub stands-some : ¬ (q .cost ≡ 2 ^ 64 - 1) → q .front < q .end
+  stands-some has = ⊎-elim (λ none. absurd (has (a .nobody none))) (λ some. some) (split (q .end) (q .front))
 
-  pub taking-none : goal < getD E (length E - 1) 0 → q .end ≤ q .front → Chooses goal E Q q (record { cost = q .cost; next = 0 })
-  taking-none h g =
-      let e = lt-leb (getD E (length E - 1) 0) goal h in
-      record { cost = rw e; next = rw (e, part-none Q (a .standing) g) }
+  stands-none : q .cost ≡ 2 ^ 64 - 1 → q .end ≤ q .front
+  stands-none is = ⊎-elim (λ none. none) (λ some. absurd (omega (arith, a .number some))) (split (q .end) (q .front))
 
-  pub taking-front : goal < getD E (length E - 1) 0 → q .front < q .end →
-      Chooses goal E Q q (record { cost = q .cost; next = getD Q (q .front) 0 })
-  taking-front h g =
-      let e = lt-leb (getD E (length E - 1) 0) goal h in
-      record { cost = rw e; next = rw (e, part-front Q (a .standing) g) }
+  module _ {goal e : ℕ} where
+    pub taking-end : e ≤ goal → Chooses goal e Q q (record { cost = 0; next = length Q + 1 })
+    taking-end h = let f = le-leb e goal h in record { cost = rw f; next = rw f }
+
+    pub taking-none : goal < e → q .cost ≡ 2 ^ 64 - 1 → Chooses goal e Q q (record { cost = 2 ^ 64 - 1; next = 0 })
+    taking-none h is =
+        let f = lt-leb e goal h in
+        record { cost = rw (f, is); next = rw (f, part-none Q (a .standing) (stands-none is)) }
+
+    pub taking-front : goal < e → ¬ (q .cost ≡ 2 ^ 64 - 1) → Chooses goal e Q q (record { cost = q .cost; next = getD Q (q .front) 0 })
+    taking-front h has =
+        let f = lt-leb e goal h in
+        record { cost = rw f; next = rw (f, part-front Q (a .standing) (stands-some has)) }
 
 -- ---- the numbers are those of the rules: the line to the end is at most lopt where it ends no later than the goal
 module _ (l : Limits) (E B : List ℕ) (x i : ℕ) (early : i < length E) (reach : x ≤ getD E (length E - 1) 0) (q : List ℕ) where
@@ -51,9 +58,9 @@ module _ (l : Limits) (E B : List ℕ) (x i : ℕ) (early : i < length E) (reach
         rw (lt-ltb i (length E) early, le-leb 0 (getD E (length E - 1) 0 - x) (omega arith), f),
       )
 
-  pub taken-numbers : {goal c : ℕ} → goal ≡ x + l .lopt → c ≡ bestEntry (frontBest (textIn l E B x) i q) →
-      (if (short? goal E) 0 c ≡ bestEntry (takenBest (textIn l E B x) i q))
-      × (if (short? goal E) (length E) (frontNext q) ≡ takenNext (textIn l E B x) i q)
-  taken-numbers e f =
+  pub taken-numbers : {goal c n : ℕ} → goal ≡ x + l .lopt → c ≡ bestEntry (frontBest (textIn l E B x) i q) → n ≡ length E →
+      (if (leb (getD E (length E - 1) 0) goal) 0 c ≡ bestEntry (takenBest (textIn l E B x) i q))
+      × (if (leb (getD E (length E - 1) 0) goal) n (frontNext q) ≡ takenNext (textIn l E B x) i q)
+  taken-numbers e f g =
       let t = taken (leb (getD E (length E - 1) 0) (x + l .lopt)) refl in
-      rw (e, f) (sym (t .0), sym (t .1))
+      rw (e, f, g) (sym (t .0), sym (t .1))

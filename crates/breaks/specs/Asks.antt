@@ -1,10 +1,9 @@
 -- What the functions of this crate ask and leave. Assumes nothing.
-use Prim.Native.Nat.{ℕ, _+_, _-_, _*_, _≤_}
+use Prim.Native.Nat.{ℕ, _+_, _-_, _*_, _^_, _≤_, _<_}
 use mathlib.Core.Path.{_≡_}
-use mathlib.Core.Bool.{Bool}
 use mathlib.Core.List.{List, [], map}
 use lib.Dec.{leb}
-use lib.ListN.{length, getD, set, replicate}
+use lib.ListN.{length, set, replicate}
 use Rattle.laws.specs.Number.{if}
 use Rattle.laws.specs.Outcome.{Promise, Is}
 use Rattle.laws.specs.Part.{listed}
@@ -22,30 +21,28 @@ use Rattle.queue.specs.declared.Queue.{Queue}
 use Rattle.queue.specs.Asks.{stood}
 use Rattle.breaks.specs.declared.Chosen.{Chosen}
 
--- ---- what a start takes, on numbers: the last line is free where the end is not past the goal
-pub record ChooseAsks (E Q : List ℕ) (q : Queue) : Type 0 where
-  pub some : 1 ≤ length E
-  pub few : length E ≤ 4097
+-- ---- what a start takes, on numbers: the last line, which ends at e, is free where that is not past the goal
+-- the cost is none exactly where nobody stands
+pub record ChooseAsks (Q : List ℕ) (q : Queue) : Type 0 where
   pub standing : q .end ≤ length Q
   pub short : length Q ≤ 4096
+  pub nobody : q .end ≤ q .front → q .cost ≡ 2 ^ 64 - 1
+  pub number : q .front < q .end → q .cost < 2 ^ 64 - 1
 
-abbrev pub short? : ℕ → List ℕ → Bool
-short? goal E = leb (getD E (length E - 1) 0) goal
+pub record Chooses (goal e : ℕ) (Q : List ℕ) (q : Queue) (r : Chosen) : Type 0 where
+  pub cost : r .cost ≡ if (leb e goal) 0 (q .cost)
+  pub next : r .next ≡ if (leb e goal) (length Q + 1) (frontNext (listed (stood Q q)))
 
-pub record Chooses (goal : ℕ) (E Q : List ℕ) (q : Queue) (r : Chosen) : Type 0 where
-  pub cost : r .cost ≡ if (short? goal E) 0 (q .cost)
-  pub next : r .next ≡ if (short? goal E) (length E) (frontNext (listed (stood Q q)))
-
-pub record SettleAsks (i : ℕ) (E Q : List ℕ) (q : Queue) (B N : List ℕ) : Type 0 where
-  pub choose : ChooseAsks E Q q
+pub record SettleAsks (i : ℕ) (Q : List ℕ) (q : Queue) (B N : List ℕ) : Type 0 where
+  pub choose : ChooseAsks Q q
   pub first : 1 ≤ i
-  pub early : i ≤ length E
-  pub best : length B ≡ length E
-  pub next : length N ≡ length E
+  pub early : i ≤ length Q
+  pub best : length B ≡ length Q + 1
+  pub next : length N ≡ length Q + 1
 
-pub record Settles (i goal : ℕ) (E Q : List ℕ) (q : Queue) (B N B′ N′ : List ℕ) : Type 0 where
-  pub best : B′ ≡ set B (i - 1) (if (short? goal E) 0 (q .cost))
-  pub next : N′ ≡ set N (i - 1) (if (short? goal E) (length E) (frontNext (listed (stood Q q))))
+pub record Settles (i goal e : ℕ) (Q : List ℕ) (q : Queue) (B N B′ N′ : List ℕ) : Type 0 where
+  pub best : B′ ≡ set B (i - 1) (if (leb e goal) 0 (q .cost))
+  pub next : N′ ≡ set N (i - 1) (if (leb e goal) (length Q + 1) (frontNext (listed (stood Q q))))
 
 -- ---- all starts, on strips that are exactly long enough
 abbrev pub bestAt : Limits → List ℕ → ℕ → ℕ

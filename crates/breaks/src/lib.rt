@@ -20,25 +20,24 @@ pub struct Chosen {
 }
 
 // "Then the start takes n+1 if Line(i, n+1) ≤ lopt; otherwise the front is the chooser; with an empty queue there is no setting."
-// The queue's cost is NONE where it is empty.
-fn choose(p: Measure, ends: &[u32], queue: &[u32], q: Queue) -> Chosen
-    requires { ⌜ ChooseAsks (now ends) (now queue) q ⌝ }
-    ensures { λ r. ⌜ Chooses (p .goal) (now (ends .entry)) (now (queue .entry)) q r ⌝ }
+// A line to n+1 ends at `last`, the strip has n places, and the queue's cost is NONE exactly where it is empty.
+fn choose(p: Measure, last: u32, queue: &[u32], q: Queue) -> Chosen
+    requires { ⌜ ChooseAsks (now queue) q ⌝ }
+    ensures { λ r. ⌜ Chooses (p .goal) last (now (queue .entry)) q r ⌝ }
 {
-    let end = ends.len();
-    if ends[end - 1] <= p.goal {
+    if last <= p.goal {
         return Chosen {
             cost: 0,
-            next: end as u32,
+            next: (queue.len() + 1) as u32,
         };
     }
-    let front = q.front;
-    if q.end <= front {
+    if q.cost == NONE {
         return Chosen {
-            cost: q.cost,
+            cost: NONE,
             next: 0,
         };
     }
+    let front = q.front;
     Chosen {
         cost: q.cost,
         next: queue[front],
@@ -49,17 +48,17 @@ fn choose(p: Measure, ends: &[u32], queue: &[u32], q: Queue) -> Chosen
 fn settle(
     i: usize,
     p: Measure,
-    ends: &[u32],
+    last: u32,
     queue: &[u32],
     q: Queue,
     best: &mut [u64],
     next: &mut [u32],
 )
-    requires { ⌜ SettleAsks i (now ends) (now queue) q (now best) (now next) ⌝ }
-    ensures { λ _. ⌜ Settles i (p .goal) (now (ends .entry)) (now (queue .entry)) q
+    requires { ⌜ SettleAsks i (now queue) q (now best) (now next) ⌝ }
+    ensures { λ _. ⌜ Settles i (p .goal) last (now (queue .entry)) q
         (now (best .entry)) (now (next .entry)) (now (best .exit)) (now (next .exit)) ⌝ }
 {
-    let chosen = choose(p, ends, queue, q);
+    let chosen = choose(p, last, queue, q);
     best[i - 1] = chosen.cost;
     next[i - 1] = chosen.next;
 }
@@ -104,12 +103,13 @@ fn starts(
         moves: 0,
         cost: NONE,
     };
+    let last = sums[sums.len() - 1];
     let mut i = short_starts(l, sums, best, next);
     while 0 < i {
         let count = q.moves;
         let p = measure_from(l, sums[i - 1]);
         let at = at_start(l, i, p, sums, best, queue, q, &mut moves[count..]);
-        settle(i, p, sums, queue, at, best, next);
+        settle(i, p, last, queue, at, best, next);
         q = Queue {
             front: at.front,
             end: at.end,

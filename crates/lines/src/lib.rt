@@ -3,7 +3,7 @@
 use paper::Limits;
 use strips::long;
 ghost use mathlib.Core.Path.{_≡_};
-ghost use Prim.Native.Nat.{_-_, _*_, _^_, _≤_};
+ghost use Prim.Native.Nat.{_-_, _*_, _^_, _≤_, _<_};
 ghost use lib.ListN.{length, getD};
 ghost use Rattle.laws.specs.Square.{sqd};
 ghost use Rattle.paper_theory.specs.Ranges.{Ranges};
@@ -92,7 +92,7 @@ pub fn penalty(l: Limits, x: u32) -> u64
 // A line that is best at goal, with the best of its break.
 pub fn curve(l: Limits, goal: u32, b: Break) -> u64
     requires { ⌜ Curved l goal b ⌝ }
-    ensures { λ r. ⌜ r ≡ costAt l goal b ⌝ }
+    ensures { λ r. ⌜ (r ≡ costAt l goal b) × (r < 2 ^ 57) ⌝ }
 {
     b.best + weighed(l, b.end, goal)
 }
@@ -100,7 +100,7 @@ pub fn curve(l: Limits, goal: u32, b: Break) -> u64
 // F(i, j) = best of j + A·(Line(i, j) - lopt)².
 pub fn through(l: Limits, goal: u32, ends: &[u32], best: &[u64], j: u32) -> u64
     requires { ⌜ Through l goal (now ends) (now best) j ⌝ }
-    ensures { λ r. ⌜ r ≡ costAt l goal (breakIn (now (ends .entry)) (now (best .entry)) j) ⌝ }
+    ensures { λ r. ⌜ (r ≡ costAt l goal (breakIn (now (ends .entry)) (now (best .entry)) j)) × (r < 2 ^ 57) ⌝ }
 {
     curve(l, goal, break_of(ends, best, j))
 }

@@ -83,7 +83,7 @@ module _ {l : PageLimits} {i : ℕ} {S B N : List ℕ} {r : ℕ} (a : PointerSet
         go (some v) e f = rw (own, f)
 
     pub settle-some : PointerSettled l text i B N (w + getD B r 0) (set B i (w + getD B r 0)) (set N i r)
-    settle-some = record { cost = settle-cost; best = refl; next = rw (← a .choosing .chosen chooses) }
+    settle-some = record { cost = settle-cost; best = refl; next = ap (set N i) (a .choosing .chosen chooses) }
 
     pub settle-small : w + getD B r 0 < 2 ^ 25
     unfolding bestEntry

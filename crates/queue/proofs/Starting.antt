@@ -129,4 +129,5 @@ module _ {s : Start} {i : ℕ} {q : Part} {c room : ℕ} (a : RulesAsk (Member s
                     (omega arith) end;
               };
               cost = e .cost costs-at;
+              number = e .number;
             }

@@ -74,6 +74,7 @@ pub record CostsAt (l : Limits) (goal : ℕ) (E B : List ℕ) (q : Part) : Type 
 pub record WorseDropped (l : Limits) (goal : ℕ) (E B : List ℕ) (q : Part) (t : ℕ) (m₀ m : List ℕ) (r : Front) : Type 0 where
   pub dropped : Dropped (λ (x : CostsAt l goal E B q). dropWorse (x .text) (x .start) (listed q)) q t m₀ m (r .at) (r .moves)
   pub cost : (x : CostsAt l goal E B q) → r .cost ≡ bestEntry (frontBest (x .text) (x .start) (listed (part (q .strip) (r .at) (q .to))))
+  pub number : r .at < q .to → r .cost < 2 ^ 64 - 1
 
 -- ---- rule 2, the pops
 -- and `cost` is F of a candidate
@@ -222,3 +223,4 @@ pub record StartLeaves (s : Start) (i : ℕ) (q : Part) (c : ℕ) (m₀ : List �
   pub left : RulesLeave (Member s) i (atStart (textAt s) i (record { queue = listed q; candidate = c })) (q .strip) 0 m₀ m
       (stood Q r) (r .candidate) (r .moves)
   pub cost : r .cost ≡ bestEntry (frontBest (textAt s) i (listed (stood Q r)))
+  pub number : r .front < r .end → r .cost < 2 ^ 64 - 1

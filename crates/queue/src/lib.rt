@@ -59,7 +59,6 @@ fn drop_long(
         (now (moves .entry)) (now (moves .exit)) r ⌝ }
 {
     let mut at = front;
-    let mut taken = count;
     while at < end {
         let j = queue[at];
         if end_of(ends, j) <= far {
@@ -67,16 +66,18 @@ fn drop_long(
         }
         put(
             moves,
-            taken,
+            count + (at - front),
             Move {
                 kind: Kind::Drop,
                 index: j,
             },
         );
         at += 1;
-        taken += 1;
     }
-    Reached { at, moves: taken }
+    Reached {
+        at,
+        moves: count + (at - front),
+    }
 }
 
 // "Pop the rear while F(i, candidate) ≤ F(i, rear)". Answers the place behind the rear.

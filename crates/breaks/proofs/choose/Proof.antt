@@ -1,18 +1,28 @@
 -- `breaks::choose` meets its contract. Assumes nothing.
 use native.Mathlib.Omega.{arith}
-use Rattle.breaks.proofs.Taking.{taking-end, taking-none, taking-front}
+use Rattle.breaks.proofs.Taking.{stands-some, taking-end, taking-none, taking-front}
 use borrow.Author.Needs.{needs}
 use Rattle.breaks.proofs.choose.Statement.{statement}
 use Rattle.breaks.proofs.choose.Tie as tie
 
 returns : tie.Need-returns
-returns c = taking-end (search needs) (omega arith)
+returns c = taking-end (search needs) (c .if1 .taken)
 
 returns-2 : tie.Need-returns-2
-returns-2 c = taking-none (search needs) (omega arith) (omega arith)
+returns-2 c = taking-none (search needs) (c .before .before .if1 .left) (c .if2 .taken)
+
+mul-t10 : tie.Need-mul-t10
+mul-t10 c =
+    let pre = c .before .before .before .before .pre in
+    omega (arith, stands-some pre (c .if2 .left), pre .standing, pre .short)
+
+shared-slice-read-t12 : tie.Need-shared-slice-read-t12
+shared-slice-read-t12 c =
+    let pre = c .before .before .before .before .before .pre in
+    omega (arith, stands-some pre (c .before .if2 .left), pre .standing)
 
 returns-3 : tie.Need-returns-3
-returns-3 c = taking-front (search needs) (omega arith) (omega arith)
+returns-3 c = taking-front (search needs) (c .before .before .before .if1 .left) (c .before .if2 .left)
 
 pub choose-spec : {M : Type 1} → statement M
 choose-spec =
@@ -20,10 +30,8 @@ choose-spec =
     (tie.spec
     (λ c. search needs)
     (λ c. search needs)
-    (λ c. search needs)
-    (λ c. search needs)
     returns
     returns-2
-    (λ c. search needs)
-    (λ c. search needs)
+    mul-t10
+    shared-slice-read-t12
     returns-3)

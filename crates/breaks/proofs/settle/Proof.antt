@@ -8,7 +8,7 @@ use Rattle.breaks.proofs.settle.Tie as tie
 
 returns : tie.Need-returns
 returns c =
-    let args = c .before .before .before .before .before .args in
+    let args = c .before .before .before .before .args in
     record {
       best = ap (set (now (args .best)) _) (c .choose .ensures .cost);
       next = ap (set (now (args .next)) _)

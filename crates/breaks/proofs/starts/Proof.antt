@@ -11,156 +11,128 @@ use Rattle.breaks.proofs.starts.Statement.{statement}
 use Rattle.breaks.proofs.starts.Tie as tie
 
 abbrev Inv-loop : tie.InvT-loop
-Inv-loop l sums best₀ next₀ queue₀ moves₀ q₀ i₀ best next queue moves q i = Started l sums moves₀ queue best next moves q i
+Inv-loop l sums best₀ next₀ queue₀ moves₀ q₀ last i₀ best next queue moves q i = Started l sums moves₀ queue best next moves q i
 
 abbrev μ-loop : tie.MeasureT-loop
-μ-loop l sums best₀ next₀ queue₀ moves₀ q₀ i₀ best next queue moves q i = i
+μ-loop l sums best₀ next₀ queue₀ moves₀ q₀ last i₀ best next queue moves q i = i
+
+sub-last : tie.Need-sub-last Inv-loop μ-loop
+sub-last c = omega (arith, c .before .before .before .before .before .pre .queue)
+
+-- the stops of a turn, from the last back to the function's start
+abbrev measured : tie.After-at-start Inv-loop μ-loop → tie.After-measure-from Inv-loop μ-loop
+measured ran = ran .before .before .before .before
+
+abbrev entered : tie.After-measure-from Inv-loop μ-loop → tie.In-loop Inv-loop μ-loop
+entered placed = placed .before .before
+
+abbrev begun : tie.At-loop Inv-loop μ-loop → tie.Start Inv-loop μ-loop
+begun at = at .before .before .before .before .before .before .before .before .before .before .before .before .before .before
 
 short-starts-requires : tie.Need-short-starts-requires Inv-loop μ-loop
 short-starts-requires c κs =
-    let pre = c .before .before .before .before .before .before .before .pre in
+    let pre = c .before .before .before .before .before .before .before .before .pre in
     record { holds = pre .holds; best = pre .best; next = pre .next }
 
 loop-holds : tie.Need-loop-holds Inv-loop μ-loop
 loop-holds c =
-    let pre = c .before .before .before .before .before .before .before .before .before .before .before .before .pre in
-    let short-starts = c .before .before .before .before .short-starts in
-    begun-started (short-starts .ensures) _ _ (pre .queue)
+    let begins = c .before .before .before .before in
+    let pre = begins .before .before .before .before .before .before .before .before .before .pre in
+    begun-started (begins .short-starts .ensures) _ _ (pre .queue)
 
 sub-measure-from : tie.Need-sub-measure-from Inv-loop μ-loop
 sub-measure-from c = omega (arith, c .loop-test .taken)
 
 mul-measure-from : tie.Need-mul-measure-from Inv-loop μ-loop
 mul-measure-from c =
-    let good = c .before .before .before .before .before .before .before .before .before .before .before .before .before .before .good in
-    let pre = c .before .before .before .before .before .before .before .before .before .before .before .before .before .before .pre in
-    let loop = c .before .loop in
-    omega (arith, c .loop-test .taken, loop .inv .low, pre .queue, many pre, good)
+    let start = begun (c .before) in
+    omega (arith, c .loop-test .taken, c .before .loop .inv .low, start .pre .queue, many (start .pre), start .good)
 
 shared-slice-read-measure-from : tie.Need-shared-slice-read-measure-from Inv-loop μ-loop
 shared-slice-read-measure-from c =
-    let pre =
-    c .before .before .before .before .before .before .before .before .before .before .before .before .before .before .before .pre in
-    let loop = c .before .before .loop in
-    let loop-test = c .before .loop-test in
-    omega (arith, loop-test .taken, loop .inv .low, pre .queue, many pre)
+    let at = c .before .before in
+    omega (arith, c .before .loop-test .taken, at .loop .inv .low, begun at .pre .queue, many (begun at .pre))
 
 measure-from-requires : tie.Need-measure-from-requires Inv-loop μ-loop
 measure-from-requires c κs =
-    let pre =
-    c .before .before .before .before .before .before .before .before .before .before .before .before .before .before .before .pre in
-    let loop = c .before .before .loop in
-    let loop-test = c .before .loop-test in
-    started-place (loop .inv) (roomy pre) (loop-test .taken)
+    let at = c .before .before in
+    started-place (at .loop .inv) (roomy (begun at .pre)) (c .before .loop-test .taken)
 
 mul-at-start : tie.Need-mul-at-start Inv-loop μ-loop
 mul-at-start c =
-    let far = c .before .before .before .before .before .before .before .before .before .before .before .before in
-    let good = far .before .before .before .before .before .before .good in
-    let pre = far .before .before .before .before .before .before .pre in
-    let loop = c .before .before .before .before .before .loop in
-    omega (arith, started-room (loop .inv) (roomy pre), good)
+    let at = c .before .before .before .before .before in
+    omega (arith, started-room (at .loop .inv) (roomy (begun at .pre)), begun at .good)
 
 sub-at-start : tie.Need-sub-at-start Inv-loop μ-loop
 sub-at-start c =
-    let far = c .before .before .before .before .before .before .before .before .before .before .before .before in
-    let pre = far .before .before .before .before .before .before .pre in
-    let loop = c .before .before .before .before .before .loop in
-    omega (arith, started-room (loop .inv) (roomy pre), started-length (loop .inv) (roomy pre))
+    let at = c .before .before .before .before .before in
+    let room = roomy (begun at .pre) in
+    omega (arith, started-room (at .loop .inv) room, started-length (at .loop .inv) room)
 
 part-at-start-start : tie.Need-part-at-start-start Inv-loop μ-loop
 part-at-start-start c =
-    let far = c .before .before .before .before .before .before .before .before .before .before .before .before in
-    let pre = far .before .before .before .before .before .before .pre in
-    let loop = c .before .before .before .before .before .loop in
-    omega (arith, started-room (loop .inv) (roomy pre), started-length (loop .inv) (roomy pre))
+    let at = c .before .before .before .before .before in
+    let room = roomy (begun at .pre) in
+    omega (arith, started-room (at .loop .inv) room, started-length (at .loop .inv) room)
 
 at-start-requires : tie.Need-at-start-requires Inv-loop μ-loop
 at-start-requires c κs =
-    let far = c .before .before .before .before .before .before .before .before .before .before .before .before in
-    let pre = far .before .before .before .before .before .before .before .pre in
-    let loop = c .before .before .before .before .before .before .loop in
-    let loop-test = c .before .before .before .before .before .loop-test in
-    let measure-from = c .before .before .before .measure-from in
-    started-asks (loop .inv) (roomy pre) (loop-test .taken) _ (measure-from .ensures .0) (measure-from .ensures .1)
+    let placed = c .before .before .before in
+    let at = entered placed .before in
+    started-asks (at .loop .inv) (roomy (begun at .pre)) (entered placed .loop-test .taken) _ (placed .measure-from .ensures .0)
+    (placed .measure-from .ensures .1)
 
 settle-requires : tie.Need-settle-requires Inv-loop μ-loop
 settle-requires c κs =
-    let far = c .before .before .before .before .before .before .before .before .before .before .before .before in
-    let pre =
-    far .before .before .before .before .before .before .before .before .before .before .before .before .before .before .before .pre in
-    let loop = far .before .before .loop in
-    let loop-test = far .before .loop-test in
-    let measure-from = c .before .before .before .before .before .before .before .before .before .before .before .measure-from in
-    let at-start = c .before .before .before .before .before .before .before .at-start in
-    started-settle (loop .inv) (roomy pre) (loop-test .taken) _ (measure-from .ensures .0) (measure-from .ensures .1) _ _ _
-    (at-start .ensures)
+    let ran = c .before .before .before .before .before .before .before in
+    let placed = measured ran in
+    let at = entered placed .before in
+    started-settle (at .loop .inv) (roomy (begun at .pre)) (entered placed .loop-test .taken) _ (placed .measure-from .ensures .0)
+    (placed .measure-from .ensures .1) _ _ _ (ran .at-start .ensures)
 
-add-t18 : tie.Need-add-t18 Inv-loop μ-loop
-add-t18 c =
-    let far = c .before .before .before .before .before .before .before .before .before .before .before .before in
-    let farther = far .before .before .before .before .before .before .before .before .before .before .before .before in
-    let good = farther .before .before .before .before .before .before .before .before .before .good in
-    let pre = farther .before .before .before .before .before .before .before .before .before .pre in
-    let loop = far .before .before .before .before .before .before .before .before .loop in
-    let loop-test = far .before .before .before .before .before .before .before .loop-test in
-    let measure-from = far .before .before .before .before .before .measure-from in
-    let at-start = far .before .at-start in
+add-t23 : tie.Need-add-t23 Inv-loop μ-loop
+add-t23 c =
+    let ran = c .before .before .before .before .before .before .before .before .before .before .before .before .before in
+    let placed = measured ran in
+    let at = entered placed .before in
     omega (
       arith,
-      started-fits (loop .inv) (roomy pre) (loop-test .taken) _ (measure-from .ensures .0) (measure-from .ensures .1) _ _ _
-          (at-start .ensures),
-      good,
+      started-fits (at .loop .inv) (roomy (begun at .pre)) (entered placed .loop-test .taken) _ (placed .measure-from .ensures .0)
+          (placed .measure-from .ensures .1) _ _ _ (ran .at-start .ensures),
+      begun at .good,
     )
 
 sub-i : tie.Need-sub-i Inv-loop μ-loop
 sub-i c =
-    let far = c .before .before .before .before .before .before .before .before .before .before .before .before in
-    let loop-test = far .before .before .before .before .before .before .before .loop-test in
-    omega (arith, loop-test .taken)
+    let ran = c .before .before .before .before .before .before .before .before .before .before .before .before .before in
+    omega (arith, entered (measured ran) .loop-test .taken)
 
 loop-less : tie.Need-loop-less Inv-loop μ-loop
 loop-less c =
-    let far = c .before .before .before .before .before .before .before .before .before .before .before .before in
-    let loop-test = far .before .before .before .before .before .before .before .loop-test in
-    omega (arith, loop-test .taken)
+    let ran = c .before .before .before .before .before .before .before .before .before .before .before .before .before in
+    omega (arith, entered (measured ran) .loop-test .taken)
 
 loop-again : tie.Need-loop-again Inv-loop μ-loop
 loop-again c =
-    let far = c .before .before .before .before .before .before .before .before .before .before .before .before in
-    let farther = far .before .before .before .before .before .before .before .before .before .before .before .before in
-    let pre = farther .before .before .before .before .before .before .before .before .before .pre in
-    let loop = far .before .before .before .before .before .before .before .before .loop in
-    let loop-test = far .before .before .before .before .before .before .before .loop-test in
-    let measure-from = far .before .before .before .before .before .measure-from in
-    let at-start = far .before .at-start in
-    let settle = c .before .before .before .before .before .settle in
-    started-next (loop .inv) (roomy pre) (loop-test .taken) _ (measure-from .ensures .0) (measure-from .ensures .1) _ _ _
-    (at-start .ensures) _ _ (settle .ensures)
+    let ran = c .before .before .before .before .before .before .before .before .before .before .before .before .before in
+    let placed = measured ran in
+    let at = entered placed .before in
+    started-next (at .loop .inv) (roomy (begun at .pre)) (entered placed .loop-test .taken) _ (placed .measure-from .ensures .0)
+    (placed .measure-from .ensures .1) _ _ _ (ran .at-start .ensures) _ _ (c .before .before .before .before .before .settle .ensures)
 
 same-length : tie.Need-same-length Inv-loop μ-loop
-same-length c =
-    let pre = c .before .before .before .before .before .before .before .before .before .before .before .before .before .before .pre in
-    let loop = c .before .loop in
-    omega (arith, held-bests _ _ _ _ (loop .inv .done), pre .best)
+same-length c = omega (arith, held-bests _ _ _ _ (c .before .loop .inv .done), begun (c .before) .pre .best)
 
 same-length-2 : tie.Need-same-length-2 Inv-loop μ-loop
 same-length-2 c =
-    let pre = c .before .before .before .before .before .before .before .before .before .before .before .before .before .before .pre in
-    let loop = c .before .loop in
-    omega (arith, loop .inv .nexts .size, pre .next, pre .queue, many pre)
+    let pre = begun (c .before) .pre in
+    omega (arith, c .before .loop .inv .nexts .size, pre .next, pre .queue, many pre)
 
 same-length-3 : tie.Need-same-length-3 Inv-loop μ-loop
-same-length-3 c =
-    let pre = c .before .before .before .before .before .before .before .before .before .before .before .before .before .before .pre in
-    let loop = c .before .loop in
-    omega (arith, loop .inv .queue-size, many pre)
+same-length-3 c = omega (arith, c .before .loop .inv .queue-size, many (begun (c .before) .pre))
 
 same-length-4 : tie.Need-same-length-4 Inv-loop μ-loop
-same-length-4 c =
-    let pre = c .before .before .before .before .before .before .before .before .before .before .before .before .before .before .pre in
-    let loop = c .before .loop in
-    started-length (loop .inv) (roomy pre)
+same-length-4 c = started-length (c .before .loop .inv) (roomy (begun (c .before) .pre))
 
 returns : tie.Need-returns Inv-loop μ-loop
 returns c = let z : c .before .loop .i ≡ 0 = omega (arith, c .loop-test .left) in started-done (rw z at (c .before .loop .inv))
@@ -171,6 +143,9 @@ starts-spec =
     (tie.spec
     Inv-loop
     μ-loop
+    sub-last
+    (λ c. search needs)
+    (λ c. search needs)
     short-starts-requires
     loop-holds
     sub-measure-from
@@ -183,7 +158,7 @@ starts-spec =
     (λ c. search needs)
     at-start-requires
     settle-requires
-    add-t18
+    add-t23
     sub-i
     loop-less
     loop-again

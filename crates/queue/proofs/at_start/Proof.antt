@@ -11,15 +11,13 @@ drop-long-requires c κs = starting-long (c .before .before .before .before .bef
 
 candidates-requires : tie.Need-candidates-requires
 candidates-requires c κs =
-    let there = c .before .before .before .before in
-    let first = there in
+    let first = c .before .before .before .before in
     starting-candidates (first .before .before .before .before .before .before .before .pre) (first .drop-long .ensures)
     (omega (arith, first .drop-long .kept))
 
 drop-worse-requires : tie.Need-drop-worse-requires
 drop-worse-requires c κs =
-    let there = c .before .before .before .before .before .before in
-    let second = there in
+    let second = c .before .before .before .before .before .before in
     let first = second .before .before .before .before .before in
     starting-worse (first .before .before .before .before .before .before .before .pre) (first .drop-long .ensures)
     (second .candidates .ensures)
@@ -27,8 +25,7 @@ drop-worse-requires c κs =
 
 returns : tie.Need-returns
 returns c =
-    let there = c .before .before in
-    let third = there in
+    let third = c .before .before in
     let second = third .before .before .before .before .before .before .before in
     let first = second .before .before .before .before .before in
     starting-done (first .before .before .before .before .before .before .before .pre) (first .drop-long .ensures)

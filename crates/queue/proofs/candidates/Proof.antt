@@ -31,17 +31,15 @@ break-of-requires c κs =
 
 consider-requires : tie.Need-consider-requires Inv-loop μ-loop
 consider-requires c κs =
-    let there = c .before .before in
-    let turn = there in
+    let turn = c .before .before in
     let at = turn .before .before .before .before .before in
     trying-asks (at .before .before .before .before .before .pre) (at .loop .inv) (turn .before .before .before .before .loop-test .taken)
     (turn .before .before .before .break-of .ensures) (turn .if1 .left)
 
 loop-again : tie.Need-loop-again Inv-loop μ-loop
 loop-again c =
-    let there = c .before .before .before .before .before .before .before in
+    let turn = c .before .before .before .before .before .before .before in
     let consider = c .before .before .before .before .consider in
-    let turn = there in
     let at = turn .before .before .before .before .before in
     trying-more (at .before .before .before .before .before .pre) (at .loop .inv) (turn .before .before .before .before .loop-test .taken)
     (turn .before .before .before .break-of .ensures) (turn .if1 .left)
@@ -70,10 +68,9 @@ same-length-4 c =
 
 returns-2 : tie.Need-returns-2 Inv-loop μ-loop
 returns-2 c =
-    let there = c .before .before .before .before .before in
+    let at = c .before .before .before .before .before in
     let loop-test = c .before .before .before .before .loop-test in
     let break-of = c .before .before .before .break-of in
-    let at = there in
     trying-stop (at .before .before .before .before .before .pre) (at .loop .inv) (loop-test .taken) (break-of .ensures) (c .if1 .taken)
 
 pub candidates-spec : {M : Type 1} → statement M

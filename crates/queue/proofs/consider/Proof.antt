@@ -20,16 +20,14 @@ returns-2 c =
 
 add-requires : tie.Need-add-requires
 add-requires c κs =
-    let there = c .before .before in
-    let turn = there in
+    let turn = c .before .before in
     considering-add (turn .before .before .before .before .before .before .before .before .before .pre) (turn .before .before .if1 .left)
     (turn .if2 .left)
 
 returns-3 : tie.Need-returns-3
 returns-3 c =
-    let there = c .before .before .before .before .before .before .before in
+    let turn = c .before .before .before .before .before .before .before in
     let add = c .before .before .before .before .add in
-    let turn = there in
     considering-done (turn .before .before .before .before .before .before .before .before .before .pre) (turn .before .before .if1 .left)
     (turn .if2 .left) (add .ensures)
 

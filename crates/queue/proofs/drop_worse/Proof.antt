@@ -32,24 +32,21 @@ loop-holds c =
 
 through-requires-2 : tie.Need-through-requires-2 Inv-loop μ-loop
 through-requires-2 c κs =
-    let there = c .before .before in
+    let at = c .before .before in
     let loop-test = c .before .loop-test in
-    let at = there in
     at .before .before .before .before .before .before .before .before .pre .each (at .loop .at + 1)
     (omega (arith, at .loop .inv .shed .low)) (loop-test .taken)
 
 put-requires : tie.Need-put-requires Inv-loop μ-loop
 put-requires c κs =
-    let there = c .before .before .before .before .before .before in
-    let at = there in
+    let at = c .before .before .before .before .before .before in
     shed-put (at .before .before .before .before .before .before .before .before .pre) (at .loop .inv .shed) Drop (at .loop .at)
     (at .loop .inv .shed .low) (at .loop .inv .some) (at .loop .inv .some)
 
 loop-again : tie.Need-loop-again Inv-loop μ-loop
 loop-again c =
-    let there = c .before .before .before .before .before in
+    let turn = c .before .before .before .before .before in
     let put = c .before .before .put in
-    let turn = there in
     let at = turn .before .before .before .before in
     lead-more (at .before .before .before .before .before .before .before .before .pre) (at .loop .inv)
     (turn .before .before .before .loop-test .taken) (turn .before .through2 .ensures) (turn .if2 .left)
@@ -68,10 +65,9 @@ same-length-2 c = c .before .before .before .before .loop .inv .shed .same
 
 returns-3 : tie.Need-returns-3 Inv-loop μ-loop
 returns-3 c =
-    let there = c .before .before .before .before in
+    let at = c .before .before .before .before in
     let loop-test = c .before .before .before .loop-test in
     let through2 = c .before .through2 in
-    let at = there in
     lead-stop (at .before .before .before .before .before .before .before .before .pre) (at .loop .inv) (loop-test .taken)
     (through2 .ensures) (c .if2 .taken)
 

@@ -37,27 +37,24 @@ break-of-requires-2 c κs =
 
 bridged-requires : tie.Need-bridged-requires Inv-loop μ-loop
 bridged-requires c κs =
-    let there = c .before .before .before .before .before in
+    let at = c .before .before .before .before .before in
     let loop-test = c .before .before .before .before .loop-test in
     let break-of = c .before .break-of in
-    let at = there in
     bridge-three (at .before .before .before .before .before .pre) (at .loop .inv) (loop-test .taken) (break-of .ensures)
     (c .break-of2 .ensures)
 
 put-requires : tie.Need-put-requires Inv-loop μ-loop
 put-requires c κs =
-    let there = c .before .before .before .before .before .before .before .before in
+    let at = c .before .before .before .before .before .before .before .before in
     let loop-test = c .before .before .before .before .before .before .before .loop-test in
-    let at = there in
     let more = loop-test .taken in
     shed-put (at .before .before .before .before .before .pre .shed) (at .loop .inv) Pop (at .loop .at - 1) (omega arith)
     (omega (arith, at .loop .inv .high)) (omega arith)
 
 add-taken : tie.Need-add-taken Inv-loop μ-loop
 add-taken c =
-    let there = c .before .before .before .before .before .before .before .before .before .before .before in
+    let at = c .before .before .before .before .before .before .before .before .before .before .before in
     let loop-test = c .before .before .before .before .before .before .before .before .before .before .loop-test in
-    let at = there in
     let more = loop-test .taken in
     omega (
       arith,
@@ -69,9 +66,8 @@ add-taken c =
 
 loop-again : tie.Need-loop-again Inv-loop μ-loop
 loop-again c =
-    let there = c .before .before .before .before in
+    let turn = c .before .before .before .before in
     let put = c .before .before .put in
-    let turn = there in
     let at = turn .before .before .before .before .before .before .before in
     bridge-more (at .before .before .before .before .before .pre) (at .loop .inv)
     (turn .before .before .before .before .before .before .loop-test .taken) (turn .before .before .before .break-of .ensures)
@@ -91,12 +87,11 @@ same-length-2 c = c .before .before .before .before .before .before .before .loo
 
 returns-2 : tie.Need-returns-2 Inv-loop μ-loop
 returns-2 c =
-    let there = c .before .before .before .before .before .before .before in
+    let at = c .before .before .before .before .before .before .before in
     let loop-test = c .before .before .before .before .before .before .loop-test in
     let break-of = c .before .before .before .break-of in
     let break-of2 = c .before .before .break-of2 in
     let bridged = c .before .bridged in
-    let at = there in
     bridge-stop (at .before .before .before .before .before .pre) (at .loop .inv) (loop-test .taken) (break-of .ensures)
     (break-of2 .ensures)
     (bridged .ensures) (not-true (bridged .result) (c .if1 .taken))

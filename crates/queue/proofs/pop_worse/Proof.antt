@@ -21,29 +21,26 @@ loop-holds c = shed-first (c .before .before .before .before .pre)
 
 through-requires : tie.Need-through-requires Inv-loop μ-loop
 through-requires c κs =
-    let there = c .before .before in
+    let at = c .before .before in
     let loop-test = c .before .loop-test in
-    let at = there in
     at .before .before .before .before .before .pre .each (at .loop .at - 1) (omega (arith, loop-test .taken))
     (omega (arith, at .loop .inv .high, loop-test .taken))
 
 put-requires : tie.Need-put-requires Inv-loop μ-loop
 put-requires c κs =
-    let there = c .before .before .before .before .before in
+    let at = c .before .before .before .before .before in
     let loop-test = c .before .before .before .before .loop-test in
-    let at = there in
     let some = loop-test .taken in
     shed-put (at .before .before .before .before .before .pre) (at .loop .inv) Pop (at .loop .at - 1) (omega arith)
     (omega (arith, at .loop .inv .high)) some
 
 loop-again : tie.Need-loop-again Inv-loop μ-loop
 loop-again c =
-    let there = c .before .before .before .before in
+    let turn = c .before .before .before .before in
     let put = c .before .before .put in
-    let turn = there in
     let at = turn .before .before .before .before in
     worse-more (at .before .before .before .before .before .pre) (at .loop .inv) (turn .before .before .before .loop-test .taken)
-    (turn .before .through .ensures) (turn .if1 .left)
+    (turn .before .through .ensures .0) (turn .if1 .left)
     (put .ensures)
 
 same-length : tie.Need-same-length Inv-loop μ-loop
@@ -59,11 +56,10 @@ same-length-2 c = c .before .before .before .before .loop .inv .same
 
 returns-2 : tie.Need-returns-2 Inv-loop μ-loop
 returns-2 c =
-    let there = c .before .before .before .before in
+    let at = c .before .before .before .before in
     let loop-test = c .before .before .before .loop-test in
     let through = c .before .through in
-    let at = there in
-    worse-stop (at .before .before .before .before .before .pre) (at .loop .inv) (loop-test .taken) (through .ensures) (c .if1 .taken)
+    worse-stop (at .before .before .before .before .before .pre) (at .loop .inv) (loop-test .taken) (through .ensures .0) (c .if1 .taken)
 
 pub pop-worse-spec : {M : Type 1} → statement M
 pop-worse-spec =
