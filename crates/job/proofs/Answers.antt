@@ -15,18 +15,18 @@ use Rattle.paper.specs.declared.Refusal.{Refusal}
 use Rattle.paper.specs.declared.Refusal.the-variants.{Many, Room, Job as Malformed}
 use Rattle.job.specs.declared.Asked.{Asked}
 use Rattle.job.specs.declared.Job.the-variants.{Read, Refused}
-use Rattle.job.specs.Reader.{Reading, refuse, accept, outcome, section, toEnd, lengthsFrom, lengthsAfter}
+use Rattle.job.specs.Reader.{Reading, refuse, accept, readingOutcome, section, toEnd, lengthsFrom, lengthsAfter}
 use Rattle.job.specs.Reader.{announced, askedBy, limitsFrom}
-use Rattle.job.specs.Section.{listed, SectionIs, section-whole}
+use Rattle.job.specs.Section.{firstNumbers, SectionIs, section-whole}
 use Rattle.job.proofs.Sections.{cut-refused, whole-written, whole-made}
 
-pub refused : {o : Reading} {r : Refusal} {s t : List ℕ} → o ≡ refuse r → t ≡ s → Promise Is (outcome o s) (Refused r) t
-unfolding outcome
+pub refused : {o : Reading} {r : Refusal} {s t : List ℕ} → o ≡ refuse r → t ≡ s → Promise Is (readingOutcome o s) (Refused r) t
+unfolding readingOutcome
 refused e f = rw e (record { tells = refl; strips = f })
 
 pub accepted : (s : List ℕ) {o : Reading} {asked : Asked} {ws t : List ℕ} {n : ℕ} → o ≡ accept asked ws → n ≡ length ws → t ≡ over ws s →
-    Promise Is (outcome o s) (Read asked n) t
-unfolding outcome
+    Promise Is (readingOutcome o s) (Read asked n) t
+unfolding readingOutcome
 accepted s e f g = rw (e, f) (record { tells = refl; strips = g })
 
 -- ---- the lengths
@@ -53,7 +53,8 @@ module _ (job : List ℕ) (room : ℕ) (asked : Asked) (at n : ℕ) where
         pub lengths-cut : complete < n → lengthsFrom job room asked at n ≡ refuse (Malformed (at + 4 * complete))
         lengths-cut h = taken ∙ cut-refused job at s h _
 
-        pub lengths-whole : n ≤ complete → length job ≤ at + 4 * n → lengthsFrom job room asked at n ≡ accept asked (listed (drop at job) n)
+        pub lengths-whole : n ≤ complete → length job ≤ at + 4 * n →
+            lengthsFrom job room asked at n ≡ accept asked (firstNumbers (drop at job) n)
         unfolding toEnd
         lengths-whole h end = taken ∙ whole-made job at s h _ ∙ rw (le-ltb (at + 4 * n) (length job) end)
 
@@ -86,4 +87,4 @@ module _ (job : List ℕ) (room count : ℕ) where
 
     pub limits-whole : count ≤ given → limitsFrom job room count ≡ lengthsAfter job room (4 + 4 * count) (askedBy count after)
     unfolding limitsFrom askedBy
-    limits-whole h = rw (e, whole-written s h) (whole-made job 4 s h _ ∙ simp (over-zeros (listed (drop 4 job) count) n))
+    limits-whole h = rw (e, whole-written s h) (whole-made job 4 s h _ ∙ simp (over-zeros (firstNumbers (drop 4 job) count) n))

@@ -19,7 +19,7 @@ use Rattle.job.specs.declared.Job.{Job}
 use Rattle.job.specs.declared.Job.the-variants.{Read}
 use Rattle.job.specs.Reader.{Reading, refuse, accept, section, counted, toEnd, lengthsFrom, lengthsAfter}
 use Rattle.job.specs.Reader.{announced, askedBy, limitsFrom, reading, readOutcome}
-use Rattle.job.specs.Section.{listed, length-listed, section-whole, section-cut}
+use Rattle.job.specs.Section.{firstNumbers, length-numbers, section-whole, section-cut}
 use Rattle.job.specs.Promise.{accepted-writes}
 
 -- the most limits that a count announces, and the bytes of the longest job that is read: 16,408
@@ -52,7 +52,7 @@ module _ (job : List ℕ) (room : ℕ) where
   unfolding toldRefusal
   section-within at n made h all =
       ⊎-elim
-      (λ g. rw (section-whole job at n made g) (all (listed (drop at job) n) (length-listed (drop at job) n)))
+      (λ g. rw (section-whole job at n made g) (all (firstNumbers (drop at job) n) (length-numbers (drop at job) n)))
       (λ g. rw (section-cut job at n made g) (omega arith))
       (split n (length (drop at job) / 4))
 

@@ -16,7 +16,7 @@ use Rattle.paper.specs.Allowed.{mostWords}
 use Rattle.job.specs.declared.Asked.{Asked}
 use Rattle.job.specs.Reader.{Reading, refuse, section, counted, toEnd, lengthsFrom, lengthsAfter}
 use Rattle.job.specs.Reader.{announced, askedBy, limitsFrom, reading}
-use Rattle.job.specs.Section.{listed, section-whole}
+use Rattle.job.specs.Section.{firstNumbers, section-whole}
 use Rattle.job.specs.Bounds.{mostLimits, longest, announced-most}
 
 if-same : {A : Type 0} (b : Bool) (x y z : A) → (b ≡ true → x ≡ y) → if b x z ≡ if b y z
@@ -28,14 +28,14 @@ module _ (job : List ℕ) (room m : ℕ) (long : longest < m) (more : m < length
   byte-first : (at k : ℕ) → at + k < longest → getD (drop at (take m job)) k 0 ≡ getD (drop at job) k 0
   byte-first at k h = getD-drop at (take m job) k 0 ∙ getD-take m job (at + k) 0 (omega arith) ∙ sym (getD-drop at job k 0)
 
-  listed-first : (at n : ℕ) → at + 4 * n ≤ longest → listed (drop at (take m job)) n ≡ listed (drop at job) n
-  unfolding listed
-  listed-first at zero h = refl
-  listed-first at (suc n) h =
+  numbers-first : (at n : ℕ) → at + 4 * n ≤ longest → firstNumbers (drop at (take m job)) n ≡ firstNumbers (drop at job) n
+  unfolding firstNumbers
+  numbers-first at zero h = refl
+  numbers-first at (suc n) h =
       let a = 4 * n in
       let byte = byte-first at in
       rw (
-        listed-first at n (omega arith),
+        numbers-first at n (omega arith),
         byte a (omega arith),
         byte (a + 1) (omega arith),
         byte (a + 2) (omega arith),
@@ -47,7 +47,7 @@ module _ (job : List ℕ) (room m : ℕ) (long : longest < m) (more : m < length
   section-first at n made other h same =
       let front : n ≤ length (drop at (take m job)) / 4 = omega (arith, length-drop at (take m job), length-take m job) in
       let whole : n ≤ length (drop at job) / 4 = omega (arith, length-drop at job) in
-      section-whole (take m job) at n made front ∙ ap made (listed-first at n h) ∙ same (listed (drop at job) n)
+      section-whole (take m job) at n made front ∙ ap made (numbers-first at n h) ∙ same (firstNumbers (drop at job) n)
       ∙ sym (section-whole job at n other whole)
 
   lengths-first : (asked : Asked) (at n : ℕ) → at ≤ 8 + 4 * mostLimits →

@@ -5,12 +5,13 @@ use mathlib.Core.List.{List, [], _∷_, _++_, map}
 use lib.ListN.{take, replicate}
 use Rattle.laws.specs.Strip.{over}
 use Rattle.paper.specs.declared.Refusal.the-variants.{Many, Room, Job as Malformed}
+use Rattle.paper.specs.Allowed.{limitsOf, pageLimitsOf}
 use Rattle.paper.specs.Told.{toldRefusal}
 use Rattle.job.specs.declared.Asked.the-variants.{Paragraph, Index}
 use Rattle.job.specs.declared.Job.{Job}
 use Rattle.job.specs.declared.Job.the-variants.{Read, Refused}
 use Rattle.job.specs.Reader.{ReadOutcome, number, numbers, section, counted, toEnd, lengthsFrom, lengthsAfter}
-use Rattle.job.specs.Reader.{announced, askedBy, limitsFrom, reading, outcome, readOutcome}
+use Rattle.job.specs.Reader.{announced, askedBy, limitsFrom, reading, readingOutcome, readOutcome}
 use Rattle.job.specs.Promise.{toldJob, noLimits, noPages}
 
 -- numbers below 256 as a job has them
@@ -19,15 +20,15 @@ bytes [] = []
 bytes (x ∷ xs) = x ∷ 0 ∷ 0 ∷ 0 ∷ bytes xs
 
 -- "the numbers 4 1 6 6 1 4 3 2 2 5" and "2 2 7 4 3 4 2 5"
-abbrev pub P1 : List ℕ
-P1 = bytes (4 ∷ 1 ∷ 6 ∷ 6 ∷ 1 ∷ 4 ∷ 3 ∷ 2 ∷ 2 ∷ 5 ∷ [])
+abbrev pub jobP1 : List ℕ
+jobP1 = bytes (4 ∷ 1 ∷ 6 ∷ 6 ∷ 1 ∷ 4 ∷ 3 ∷ 2 ∷ 2 ∷ 5 ∷ [])
 
-abbrev pub G1 : List ℕ
-G1 = bytes (2 ∷ 2 ∷ 7 ∷ 4 ∷ 3 ∷ 4 ∷ 2 ∷ 5 ∷ [])
+abbrev pub jobG1 : List ℕ
+jobG1 = bytes (2 ∷ 2 ∷ 7 ∷ 4 ∷ 3 ∷ 4 ∷ 2 ∷ 5 ∷ [])
 
 -- the reader, with all that it rests on open
 unfoldable pub worked : List ℕ → List ℕ → ReadOutcome
-unfolding readOutcome outcome reading limitsFrom announced askedBy lengthsAfter
+unfolding readOutcome readingOutcome reading limitsFrom announced askedBy lengthsAfter
     lengthsFrom toEnd counted section numbers over
 worked = readOutcome
 
@@ -40,11 +41,11 @@ abbrev nines : List ℕ
 nines = replicate 6 9
 
 abbrev index27 : ℕ → Job
-index27 n = Read (Index (record { lmin = 2; lmax = 7 })) n
+index27 n = Read (Index (pageLimitsOf 2 7)) n
 
 -- ---- jobs that are read: the n lengths are written, and no entry past them. "A count of 0 lengths is read".
-pub read-jobs : map (λ (job : List ℕ). readOutcome job nines) (P1 ∷ G1 ∷ bytes (2 ∷ 2 ∷ 7 ∷ 0 ∷ []) ∷ [])
-    ≡ record { answer = Read (Paragraph (record { lmin = 1; lopt = 6; lmax = 6; a = 1 })) 4; strips = 3 ∷ 2 ∷ 2 ∷ 5 ∷ 9 ∷ 9 ∷ [] }
+pub read-jobs : map (λ (job : List ℕ). readOutcome job nines) (jobP1 ∷ jobG1 ∷ bytes (2 ∷ 2 ∷ 7 ∷ 0 ∷ []) ∷ [])
+    ≡ record { answer = Read (Paragraph (limitsOf 1 6 6 1)) 4; strips = 3 ∷ 2 ∷ 2 ∷ 5 ∷ 9 ∷ 9 ∷ [] }
     ∷ record { answer = index27 4; strips = 3 ∷ 4 ∷ 2 ∷ 5 ∷ 9 ∷ 9 ∷ [] }
     ∷ record { answer = index27 0; strips = nines }
     ∷ []
@@ -71,7 +72,7 @@ unfolding worked
 first-counts = refl
 
 -- cut before the limits, in the last of them, before n, in n, before the lengths, in the third of them; a byte left over
-pub cut-jobs : answers (map (λ (k : ℕ). take k P1) (4 ∷ 18 ∷ 20 ∷ 23 ∷ 24 ∷ 33 ∷ []) ++ (P1 ++ (0 ∷ [])) ∷ [])
+pub cut-jobs : answers (map (λ (k : ℕ). take k jobP1) (4 ∷ 18 ∷ 20 ∷ 23 ∷ 24 ∷ 33 ∷ []) ++ (jobP1 ++ (0 ∷ [])) ∷ [])
     ≡ malformedAt (4 ∷ 16 ∷ 20 ∷ 20 ∷ 24 ∷ 32 ∷ 40 ∷ [])
 unfolding worked
 cut-jobs = refl
@@ -84,7 +85,7 @@ unfolding worked
 many-and-room = refl
 
 -- "A refused read leaves the lengths strip unchanged and returns zero for limits and n."
-pub short-strip : readOutcome P1 (9 ∷ 9 ∷ 9 ∷ []) ≡ record { answer = Refused (Room 1); strips = 9 ∷ 9 ∷ 9 ∷ [] }
+pub short-strip : readOutcome jobP1 (9 ∷ 9 ∷ 9 ∷ []) ≡ record { answer = Refused (Room 1); strips = 9 ∷ 9 ∷ 9 ∷ [] }
 unfolding worked
 short-strip = refl
 

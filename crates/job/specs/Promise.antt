@@ -9,12 +9,13 @@ use Rattle.laws.specs.Outcome.{Promise, Is, agree, is-single}
 use Rattle.paper.specs.declared.Limits.{Limits}
 use Rattle.paper.specs.declared.PageLimits.{PageLimits}
 use Rattle.paper.specs.declared.Refusal.{Refusal}
+use Rattle.paper.specs.Allowed.{limitsOf, pageLimitsOf}
 use Rattle.paper.specs.Told.{toldRefusal}
 use Rattle.job.specs.declared.Asked.{Asked}
 use Rattle.job.specs.declared.Asked.the-variants.{Paragraph, Index}
 use Rattle.job.specs.declared.Job.{Job}
 use Rattle.job.specs.declared.Job.the-variants.{Read, Refused}
-use Rattle.job.specs.Reader.{Reading, refuse, accept, ReadOutcome, outcome}
+use Rattle.job.specs.Reader.{Reading, refuse, accept, ReadOutcome, readingOutcome}
 
 -- Any two outcomes that satisfy the promise agree.
 pub read-agree : {o : ReadOutcome} {r q : Job} {s t : List ℕ} → Promise Is o r s → Promise Is o q t → (r ≡ q) × (s ≡ t)
@@ -31,10 +32,10 @@ pub record ToldJob : Type 0 where
   pub n : ℕ
 
 abbrev pub noLimits : Limits
-noLimits = record { lmin = 0; lopt = 0; lmax = 0; a = 0 }
+noLimits = limitsOf 0 0 0 0
 
 abbrev pub noPages : PageLimits
-noPages = record { lmin = 0; lmax = 0 }
+noPages = pageLimitsOf 0 0
 
 -- "A refused read [..] returns zero for limits and n."
 unfoldable pub toldJob : Job → ToldJob
@@ -45,8 +46,8 @@ toldJob (Refused r) =
 
 -- ---- "A refused read leaves the lengths strip unchanged"
 pub refused-unchanged : (o : Reading) (s : List ℕ) {r : Job} {t : List ℕ} (q : Refusal) →
-    Promise Is (outcome o s) r t → r ≡ Refused q → t ≡ s
-unfolding outcome
+    Promise Is (readingOutcome o s) r t → r ≡ Refused q → t ≡ s
+unfolding readingOutcome
 refused-unchanged (refuse q′) s q p e = p .strips
 refused-unchanged (accept asked ws) s q p e =
     let z : _≡_ {A = ℕ} 0 1 = cc (p .tells) in
@@ -60,8 +61,8 @@ pub record ReadInto (o : Reading) (s : List ℕ) (asked : Asked) (n : ℕ) (t : 
   pub written : t ≡ over lengths s
 
 pub accepted-writes : (o : Reading) (s : List ℕ) {r : Job} {t : List ℕ} {asked : Asked} {n : ℕ} →
-    Promise Is (outcome o s) r t → r ≡ Read asked n → ReadInto o s asked n t
-unfolding outcome
+    Promise Is (readingOutcome o s) r t → r ≡ Read asked n → ReadInto o s asked n t
+unfolding readingOutcome
 accepted-writes (refuse q) s p e =
     let z : _≡_ {A = ℕ} 0 1 = cc (p .tells) in
     absurd (omega arith)

@@ -9,7 +9,7 @@ use Rattle.laws.specs.Strip.{over}
 use Rattle.laws.specs.Outcome.{Outcome}
 use Rattle.paper.specs.declared.Refusal.{Refusal}
 use Rattle.paper.specs.declared.Refusal.the-variants.{Many, Room, Job as Malformed}
-use Rattle.paper.specs.Allowed.{mostWords}
+use Rattle.paper.specs.Allowed.{limitsOf, pageLimitsOf, mostWords}
 use Rattle.job.specs.declared.Asked.{Asked}
 use Rattle.job.specs.declared.Asked.the-variants.{Paragraph, Index}
 use Rattle.job.specs.declared.Job.{Job}
@@ -67,8 +67,8 @@ announced count = eqb count 4 || eqb count 2
 unfoldable pub askedBy : ℕ → List ℕ → Asked
 askedBy count l =
     if (eqb count 2)
-    (Index (record { lmin = getD l 0 0; lmax = getD l 1 0 }))
-    (Paragraph (record { lmin = getD l 0 0; lopt = getD l 1 0; lmax = getD l 2 0; a = getD l 3 0 }))
+    (Index (pageLimitsOf (getD l 0 0) (getD l 1 0)))
+    (Paragraph (limitsOf (getD l 0 0) (getD l 1 0) (getD l 2 0) (getD l 3 0)))
 
 -- "Sections stand in a fixed order, each after its count: limits [..], then lengths." "a first count that is neither 4 nor 2 is
 -- JOB at 0"
@@ -87,9 +87,9 @@ abbrev pub ReadOutcome : Type 0
 ReadOutcome = Outcome Job (List ℕ)
 
 -- "A refused read leaves the lengths strip unchanged [..]. An accepted read writes the n lengths and no entry past them."
-unfoldable pub outcome : Reading → List ℕ → ReadOutcome
-outcome (refuse r) s = record { answer = Refused r; strips = s }
-outcome (accept asked ws) s = record { answer = Read asked (length ws); strips = over ws s }
+unfoldable pub readingOutcome : Reading → List ℕ → ReadOutcome
+readingOutcome (refuse r) s = record { answer = Refused r; strips = s }
+readingOutcome (accept asked ws) s = record { answer = Read asked (length ws); strips = over ws s }
 
 unfoldable pub readOutcome : List ℕ → List ℕ → ReadOutcome
-readOutcome job s = outcome (reading job (length s)) s
+readOutcome job s = readingOutcome (reading job (length s)) s

@@ -16,40 +16,40 @@ use Rattle.paper.specs.declared.Refusal.the-variants.{Job as Malformed}
 use Rattle.job.specs.Reader.{Reading, refuse, number, numbers, section, counted}
 
 -- the first n numbers of a part
-unfoldable pub listed : List ℕ → ℕ → List ℕ
-listed part zero = []
-listed part (suc k) = listed part k ++ (number part (4 * k) ∷ [])
+unfoldable pub firstNumbers : List ℕ → ℕ → List ℕ
+firstNumbers part zero = []
+firstNumbers part (suc k) = firstNumbers part k ++ (number part (4 * k) ∷ [])
 
 -- n numbers are asked of a part: how many of them are complete, and the strip, written only where all are
 pub record SectionIs (part : List ℕ) (n : ℕ) (before : List ℕ) (complete : ℕ) (after : List ℕ) : Type 0 where
   pub count : complete ≡ min n (length part / 4)
-  pub strip : after ≡ if (leb n (length part / 4)) (over (listed part n) before) before
+  pub strip : after ≡ if (leb n (length part / 4)) (over (firstNumbers part n) before) before
 
 number-drop : (part : List ℕ) (a k : ℕ) → number (drop a part) k ≡ number part (a + k)
 number-drop part a k = simp (getD-drop, add-assoc)
 
-pub length-listed : (part : List ℕ) (n : ℕ) → length (listed part n) ≡ n
-unfolding listed
-length-listed part zero = refl
-length-listed part (suc n) = simp length-append (omega (arith, length-listed part n))
+pub length-numbers : (part : List ℕ) (n : ℕ) → length (firstNumbers part n) ≡ n
+unfolding firstNumbers
+length-numbers part zero = refl
+length-numbers part (suc n) = simp length-append (omega (arith, length-numbers part n))
 
 -- the first, then the rest
-listed-cons : (part : List ℕ) (n : ℕ) → listed part (suc n) ≡ number part 0 ∷ listed (drop 4 part) n
-unfolding listed
-listed-cons part zero = refl
-listed-cons part (suc n) =
+numbers-cons : (part : List ℕ) (n : ℕ) → firstNumbers part (suc n) ≡ number part 0 ∷ firstNumbers (drop 4 part) n
+unfolding firstNumbers
+numbers-cons part zero = refl
+numbers-cons part (suc n) =
     let e : 4 + 4 * n ≡ 4 * suc n = omega arith in
-    rw (number-drop part 4 (4 * n), e) (ap (λ (xs : List ℕ). xs ++ (number part (4 * suc n) ∷ [])) (listed-cons part n))
+    rw (number-drop part 4 (4 * n), e) (ap (λ (xs : List ℕ). xs ++ (number part (4 * suc n) ∷ [])) (numbers-cons part n))
 
 -- ---- what the definition comes to
 numbers-whole : (at : ℕ) (part : List ℕ) (n : ℕ) (made : List ℕ → Reading) → n ≤ length part / 4 →
-    numbers at part n made ≡ made (listed part n)
-unfolding numbers listed
+    numbers at part n made ≡ made (firstNumbers part n)
+unfolding numbers firstNumbers
 numbers-whole at part zero made h = refl
 numbers-whole at part (suc n) made h =
     rw (le-ltb (length part) 4 (omega arith), numbers)
     (numbers-whole (at + 4) (drop 4 part) n (λ xs. made (number part 0 ∷ xs)) (omega (arith, length-drop 4 part))
-    ∙ ap made (sym (listed-cons part n)))
+    ∙ ap made (sym (numbers-cons part n)))
 
 numbers-cut : (at : ℕ) (part : List ℕ) (n : ℕ) (made : List ℕ → Reading) → length part / 4 < n →
     numbers at part n made ≡ refuse (Malformed (at + 4 * (length part / 4)))
@@ -65,7 +65,7 @@ numbers-cut at part (suc n) made h =
 
 -- ---- a section of the job, and a count
 module _ (job : List ℕ) (at n : ℕ) (made : List ℕ → Reading) where
-  pub section-whole : n ≤ length (drop at job) / 4 → section job at n made ≡ made (listed (drop at job) n)
+  pub section-whole : n ≤ length (drop at job) / 4 → section job at n made ≡ made (firstNumbers (drop at job) n)
   unfolding section
   section-whole = numbers-whole at (drop at job) n made
 
@@ -75,7 +75,7 @@ module _ (job : List ℕ) (at n : ℕ) (made : List ℕ → Reading) where
 
 module _ (job : List ℕ) (at : ℕ) (made : ℕ → Reading) where
   pub count-whole : at + 4 ≤ length job → counted job at made ≡ made (number job at)
-  unfolding counted listed
+  unfolding counted firstNumbers
   count-whole h =
       section-whole job at 1 (λ xs. made (getD xs 0 0)) (omega (arith, length-drop at job))
       ∙ ap made (number-drop job at 0 ∙ ap (number job) (omega arith))

@@ -5,7 +5,7 @@ use paper::Refusal;
 ghost use mathlib.Core.Path.{_≡_};
 ghost use Prim.Native.Nat.{_+_, _≤_, _<_};
 ghost use lib.ListN.{length};
-ghost use Rattle.job.specs.Reader.{number, lengthsFrom, lengthsAfter, announced, askedBy, limitsFrom, outcome, readOutcome};
+ghost use Rattle.job.specs.Reader.{number, lengthsFrom, lengthsAfter, announced, askedBy, limitsFrom, readingOutcome, readOutcome};
 ghost use Rattle.job.specs.Section.{SectionIs};
 ghost use Rattle.laws.specs.Outcome.{Promise, Is};
 
@@ -61,7 +61,7 @@ fn section(part: &[u8], n: usize, out: &mut [u32]) -> usize
 fn lengths_from(job: &[u8], asked: Asked, at: usize, count: u32, lengths: &mut [u32]) -> Job
     requires { ⌜ at ≤ length (now job) ⌝ }
     ensures { λ r. ⌜ Promise Is
-        (outcome (lengthsFrom (now (job .entry)) (length (now (lengths .entry))) asked at count) (now (lengths .entry)))
+        (readingOutcome (lengthsFrom (now (job .entry)) (length (now (lengths .entry))) asked at count) (now (lengths .entry)))
         r (now (lengths .exit)) ⌝ }
 {
     if 4096 < count {
@@ -86,7 +86,7 @@ fn lengths_from(job: &[u8], asked: Asked, at: usize, count: u32, lengths: &mut [
 fn lengths_after(job: &[u8], at: usize, asked: Asked, lengths: &mut [u32]) -> Job
     requires { ⌜ at ≤ length (now job) ⌝ }
     ensures { λ r. ⌜ Promise Is
-        (outcome (lengthsAfter (now (job .entry)) (length (now (lengths .entry))) at asked) (now (lengths .entry)))
+        (readingOutcome (lengthsAfter (now (job .entry)) (length (now (lengths .entry))) at asked) (now (lengths .entry)))
         r (now (lengths .exit)) ⌝ }
 {
     if job.len() < at + 4 {
@@ -125,7 +125,7 @@ fn asked_by(count: u32, l: &[u32]) -> Asked
 fn limits_from(job: &[u8], count: u32, lengths: &mut [u32]) -> Job
     requires { ⌜ 4 ≤ length (now job) ⌝ }
     ensures { λ r. ⌜ Promise Is
-        (outcome (limitsFrom (now (job .entry)) (length (now (lengths .entry))) count) (now (lengths .entry)))
+        (readingOutcome (limitsFrom (now (job .entry)) (length (now (lengths .entry))) count) (now (lengths .entry)))
         r (now (lengths .exit)) ⌝ }
 {
     if !announced(count) {

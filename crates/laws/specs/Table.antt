@@ -23,12 +23,12 @@ cheapest p i j [] = none
 cheapest p i j (a ∷ bs) = lower (offer p i j a) (cheapest p i (suc j) bs)
 
 -- the bests of i, i + 1, .., i + d, where i + d is the end
-abbrev pub row : Problem → ℕ → ℕ → List Cost
-row p zero i = some (p .done) ∷ []
-row p (suc d) i = let r = row p d (suc i) in cheapest p i (suc i) r ∷ r
+abbrev pub bestsFrom : Problem → ℕ → ℕ → List Cost
+bestsFrom p zero i = some (p .done) ∷ []
+bestsFrom p (suc d) i = let r = bestsFrom p d (suc i) in cheapest p i (suc i) r ∷ r
 
 unfoldable pub best : Problem → ℕ → Cost
-best p i = getD (row p (p .end - i) i) 0 none
+best p i = getD (bestsFrom p (p .end - i) i) 0 none
 
 -- ---- the least offer is the least over the choices
 module _ (p : Problem) (b : ℕ → Cost) (i : ℕ) where
@@ -91,21 +91,21 @@ module _ (p : Problem) (b : ℕ → Cost) (i : ℕ) where
 
 -- ---- the table satisfies Bellman's equation
 module _ (p : Problem) where
-  row-length : (d i : ℕ) → length (row p d i) ≡ suc d
-  row-length zero i = refl
-  row-length (suc d) i = ap suc (row-length d (suc i))
+  bests-length : (d i : ℕ) → length (bestsFrom p d i) ≡ suc d
+  bests-length zero i = refl
+  bests-length (suc d) i = ap suc (bests-length d (suc i))
 
-  row-best : (d i k : ℕ) → i + d ≡ p .end → k ≤ d → getD (row p d i) k none ≡ best p (i + k)
+  bests-at : (d i k : ℕ) → i + d ≡ p .end → k ≤ d → getD (bestsFrom p d i) k none ≡ best p (i + k)
   unfolding best
-  row-best d i zero e h =
+  bests-at d i zero e h =
       let f : p .end - (i + 0) ≡ d = omega arith in
       let g : i + 0 ≡ i = omega arith in
       rw (f, g)
-  row-best zero i (suc k) e h = absurd (omega arith)
-  row-best (suc d) i (suc k) e h =
-      row-best d (suc i) k (omega arith) (omega arith) ∙ ap (best p) (omega arith)
+  bests-at zero i (suc k) e h = absurd (omega arith)
+  bests-at (suc d) i (suc k) e h =
+      bests-at d (suc i) k (omega arith) (omega arith) ∙ ap (best p) (omega arith)
 
-  best-cheapest : (i : ℕ) → i < p .end → best p i ≡ cheapest p i (suc i) (row p (p .end - suc i) (suc i))
+  best-cheapest : (i : ℕ) → i < p .end → best p i ≡ cheapest p i (suc i) (bestsFrom p (p .end - suc i) (suc i))
   unfolding best
   best-cheapest i h =
       let e : p .end - i ≡ suc (p .end - suc i) = omega arith in
@@ -121,12 +121,12 @@ module _ (p : Problem) where
       })
     where
       r : List Cost
-      r = row p (p .end - suc i) (suc i)
+      r = bestsFrom p (p .end - suc i) (suc i)
 
       least : Least (From p (best p) i (suc i)) (through p (best p) i) (cheapest p i (suc i) r)
       least =
-          cheapest-least p (best p) i (suc i) r (omega arith) (omega (arith, row-length (p .end - suc i) (suc i)))
-          (λ k g. row-best (p .end - suc i) (suc i) k (omega arith) (omega (arith, row-length (p .end - suc i) (suc i))))
+          cheapest-least p (best p) i (suc i) r (omega arith) (omega (arith, bests-length (p .end - suc i) (suc i)))
+          (λ k g. bests-at (p .end - suc i) (suc i) k (omega arith) (omega (arith, bests-length (p .end - suc i) (suc i))))
 
   pub best-end : best p (p .end) ≡ some (p .done)
   unfolding best

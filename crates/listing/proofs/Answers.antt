@@ -31,8 +31,8 @@ use Rattle.job.specs.declared.Job.the-variants.{Read, Refused as JobRefused}
 use Rattle.job.specs.Reader as Reader
 use Rattle.job.specs.Reader.{Reading, refuse, accept, reading, readOutcome}
 use Rattle.job.specs.Promise.{accepted-writes}
-use Rattle.listing.specs.Listing.{refused, refusal, holds, least, starts, moved}
-use Rattle.listing.specs.Listing.{costListing, checkedListing, askedListing, listed, listingOf}
+use Rattle.listing.specs.Listing.{refused, refusal, holds, least, starts, moveCount}
+use Rattle.listing.specs.Listing.{costListing, checkedListing, askedListing, readingListing, listingOf}
 use Rattle.listing.specs.Asks.{IsSet, Answered}
 use Rattle.listing.specs.Settings.{set-is}
 use Rattle.listing.specs.Size.{set-size}
@@ -54,19 +54,20 @@ module _ (job : List ℕ) {r : Job} {t : List ℕ} (p : Promise Is (readOutcome 
   size = length-replicate {A = ℕ} 4096 0
 
   pub unread-listed : {q : Refusal} → r ≡ JobRefused q → listingOf job ≡ refusal q
-  unfolding listingOf readOutcome Reader.outcome listed
+  unfolding listingOf readOutcome Reader.readingOutcome readingListing
   unread-listed {q} e = rw (← size) (go (reading job (length {A = ℕ} (replicate 4096 0))) (sym e ∙ p .tells))
     where
-      go : (o : Reading) → JobRefused q ≡ Reader.outcome o (replicate 4096 0) .answer → listed o ≡ refusal q
+      go : (o : Reading) → JobRefused q ≡ Reader.readingOutcome o (replicate 4096 0) .answer → readingListing o ≡ refusal q
       go (refuse q′) f = let z : q ≡ q′ = cc in rw z
       go (accept asked ws) f = let z : _≡_ {A = ℕ} 0 1 = cc in absurd (omega arith)
 
   pub read-listed : {asked : Asked} {n : ℕ} → r ≡ Read asked n → listingOf job ≡ askedListing asked (take n t)
-  unfolding listingOf readOutcome listed
+  unfolding listingOf readOutcome readingListing
   read-listed {asked} {n} e =
       let s : List ℕ = replicate 4096 0 in
       let a = accepted-writes (reading job (length s)) s p e in
-      ap listed (ap (reading job) (sym size) ∙ a .is ∙ ap (accept asked) (sym (front-is (a .lengths) s t n (a .written) (sym (a .count)))))
+      ap readingListing
+      (ap (reading job) (sym size) ∙ a .is ∙ ap (accept asked) (sym (front-is (a .lengths) s t n (a .written) (sym (a .count)))))
 
 -- ---- a setter, which is lent strips that are long enough for every text
 -- where no strip is too short for a text that is not MANY, the checks are those of 1 to 4
@@ -90,7 +91,7 @@ roomy k (h ∷ hs) (n ∷ ns) r = when-true (leb n h) _ _ (le-leb n h (r .0)) �
 -- the sums and the answer strip, before and after a setting
 module _ (asked : Asked) (ws s p S P : List ℕ) (sums-room : mostWords + 1 ≤ length s) (starts-room : mostWords ≤ length p) where
   set : (v : ℕ) → checked (holds asked) ws [] [] ≡ Accept → least asked ws ≡ some v → S ≡ over (sums ws) s → P ≡ over (starts asked ws) p →
-      IsSet asked ws S P v (length (starts asked ws)) (moved asked ws)
+      IsSet asked ws S P v (length (starts asked ws)) (moveCount asked ws)
   unfolding askedListing checkedListing costListing
   set v pass cost sums-over starts-over =
       let passed = accepted (holds asked) ws [] [] pass .passed in
@@ -116,8 +117,8 @@ module _ (asked : Asked) (ws s p S P : List ℕ) (sums-room : mostWords + 1 ≤ 
 module _ {Strips : Type 0} (asked : Asked) (ws : List ℕ) (sumsOf startsOf : Strips → List ℕ) (lent : Strips) (has needs : List ℕ)
     (answer : Checked → Answer) (strips : Checked → Strips) (costAnswer : Cost → Answer)
     (refuses : (r : Refusal) → answer (Refuse r) ≡ Refused r) (accepts : answer Accept ≡ costAnswer (least asked ws))
-    (none-is : costAnswer none ≡ None (moved asked ws))
-    (some-is : (v : ℕ) → costAnswer (some v) ≡ Set v (length (starts asked ws)) (moved asked ws))
+    (none-is : costAnswer none ≡ None (moveCount asked ws))
+    (some-is : (v : ℕ) → costAnswer (some v) ≡ Set v (length (starts asked ws)) (moveCount asked ws))
     (sums-over : (v : ℕ) → least asked ws ≡ some v → sumsOf (strips Accept) ≡ over (sums ws) (sumsOf lent))
     (starts-over : (v : ℕ) → least asked ws ≡ some v → startsOf (strips Accept) ≡ over (starts asked ws) (startsOf lent))
     (sums-room : mostWords + 1 ≤ length (sumsOf lent)) (starts-room : mostWords ≤ length (startsOf lent))

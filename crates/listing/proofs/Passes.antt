@@ -10,22 +10,22 @@ use Rattle.laws.specs.Outcome.{Promise, Is}
 use Rattle.rows.specs.Puts.{Fits, Puts, puts-counted, puts-over}
 use Rattle.listing.specs.declared.Listed.the-variants.{Written, Short}
 use Rattle.listing.specs.Listing.{refused}
-use Rattle.listing.specs.Promise.{outcome}
+use Rattle.listing.specs.Promise.{bytesOutcome}
 use Rattle.listing.specs.Size.{refused-size}
 
 module _ {bytes : List ℕ} {size : ℕ} {t : List ℕ} (s : List ℕ) (counted : Puts bytes 0 [] size t) where
   back : t ++ s ≡ s
   back = ap (λ (l : List ℕ). l ++ s) (puts-counted counted)
 
-  pub too-short : length (t ++ s) < size → Promise Is (outcome bytes s) (Short size) (t ++ s)
-  unfolding outcome
+  pub too-short : length (t ++ s) < size → Promise Is (bytesOutcome bytes s) (Short size) (t ++ s)
+  unfolding bytesOutcome
   too-short h =
       let e : size ≡ length bytes = omega (arith, counted .place) in
       rw (back, lt-leb (length bytes) (length s) (omega (arith, ap length back)), e) (record { tells = refl; strips = refl })
 
   pub all-written : size ≤ length (t ++ s) → {next : ℕ} {u : List ℕ} →
-      Puts bytes 0 (t ++ s) next u → Promise Is (outcome bytes s) (Written size) u
-  unfolding outcome
+      Puts bytes 0 (t ++ s) next u → Promise Is (bytesOutcome bytes s) (Written size) u
+  unfolding bytesOutcome
   all-written h p =
       let e : size ≡ length bytes = omega (arith, counted .place) in
       let room : length bytes ≤ length s = omega (arith, ap length back) in

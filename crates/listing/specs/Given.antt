@@ -21,42 +21,42 @@ use Rattle.job.specs.Bounds.{longest}
 use Rattle.job.specs.First.{reading-first}
 use Rattle.listing.specs.declared.Listed.{Listed}
 use Rattle.listing.specs.declared.Listed.the-variants.{Written, Short}
-use Rattle.listing.specs.Listing.{refused, refusal, holds, least, starts, moved, setRows}
-use Rattle.listing.specs.Listing.{costListing, checkedListing, askedListing, listed, listingOf}
+use Rattle.listing.specs.Listing.{refused, refusal, holds, least, starts, moveCount, setRows}
+use Rattle.listing.specs.Listing.{costListing, checkedListing, askedListing, readingListing, listingOf}
 use Rattle.laws.specs.Outcome.{Promise, Is}
-use Rattle.listing.specs.Promise.{outcome}
+use Rattle.listing.specs.Promise.{bytesOutcome}
 
 -- ---- a job that is not read
 pub listed-unread : (job : List ℕ) (r : Refusal) → reading job mostWords ≡ refuse r → listingOf job ≡ refusal r
-unfolding listingOf listed
+unfolding listingOf readingListing
 listed-unread job r e = rw e
 
 -- ---- "A job of any size [..] gets its right answer": more than 16,408 bytes are decided by any longer front.
 pub listing-first : (job : List ℕ) (m : ℕ) → longest < m → listingOf (take m job) ≡ listingOf job
 unfolding listingOf
-listing-first job m long = ap listed (reading-first job mostWords m long)
+listing-first job m long = ap readingListing (reading-first job mostWords m long)
 
 -- ---- a job that is read
 module _ (job : List ℕ) (asked : Asked) (ws : List ℕ) (read : reading job mostWords ≡ accept asked ws) where
   pub listed-refused : (r : Refusal) → checked (holds asked) ws [] [] ≡ Refuse r → listingOf job ≡ refusal r
-  unfolding listingOf listed askedListing checkedListing
+  unfolding listingOf readingListing askedListing checkedListing
   listed-refused r e = rw (read, e)
 
   pub listed-none : checked (holds asked) ws [] [] ≡ Accept → least asked ws ≡ none → listingOf job ≡ refused 6 0
-  unfolding listingOf listed askedListing checkedListing costListing
+  unfolding listingOf readingListing askedListing checkedListing costListing
   listed-none e f = rw (read, e, f)
 
   pub listed-set : checked (holds asked) ws [] [] ≡ Accept → (total : ℕ) → least asked ws ≡ some total →
-      listingOf job ≡ setRows asked ws (starts asked ws) total (moved asked ws)
-  unfolding listingOf listed askedListing checkedListing costListing
+      listingOf job ≡ setRows asked ws (starts asked ws) total (moveCount asked ws)
+  unfolding listingOf readingListing askedListing checkedListing costListing
   listed-set e total f = rw (read, e, f)
 
 -- ---- the buffer
-module _ (bytes s : List ℕ) {r : Listed} {t : List ℕ} (p : Promise Is (outcome bytes s) r t) where
+module _ (bytes s : List ℕ) {r : Listed} {t : List ℕ} (p : Promise Is (bytesOutcome bytes s) r t) where
   -- with room: the bytes stand at the front, and the rest is as it was
   pub with-room : length bytes ≤ length s →
       (r ≡ Written (length bytes)) × (take (length bytes) t ≡ bytes) × (drop (length bytes) t ≡ drop (length bytes) s)
-  unfolding outcome over
+  unfolding bytesOutcome over
   with-room h =
       let fits = le-leb (length bytes) (length s) h in
       let q : Promise Is (record { answer = Written (length bytes); strips = over bytes s }) r t = rw fits at p in (
@@ -67,7 +67,7 @@ module _ (bytes s : List ℕ) {r : Listed} {t : List ℕ} (p : Promise Is (outco
 
   -- "A buffer that is too short gets a clear answer, and is left unchanged."
   pub without-room : length s < length bytes → (r ≡ Short (length bytes)) × (t ≡ s)
-  unfolding outcome
+  unfolding bytesOutcome
   without-room h =
       let q : Promise Is (record { answer = Short (length bytes); strips = s }) r t = rw (lt-leb (length bytes) (length s) h) at p in
       (q .tells, q .strips)

@@ -40,9 +40,9 @@ unfoldable pub starts : Asked → List ℕ → List ℕ
 starts (AskedParagraph l) ws = Paragraph.breaks l ws
 starts (AskedIndex l) ws = Index.boundaries l ws
 
-unfoldable pub moved : Asked → List ℕ → ℕ
-moved (AskedParagraph l) ws = length (queueMoves l ws)
-moved (AskedIndex l) ws = length (pointerMoves l ws)
+unfoldable pub moveCount : Asked → List ℕ → ℕ
+moveCount (AskedParagraph l) ws = length (queueMoves l ws)
+moveCount (AskedIndex l) ws = length (pointerMoves l ws)
 
 -- ---- "First n, the total, the count of lines; then for each line [a row]; then the count of moves."
 abbrev pub headed : List ℕ → ℕ → List ℕ → ℕ → List ℕ → ℕ → List ℕ
@@ -75,7 +75,7 @@ setRows asked ws is total moves = head asked (length ws) total (length is) ++ (s
 -- ---- NONE, or the setting: "for P4 it is `refused 6 0`"
 unfoldable pub costListing : Asked → List ℕ → Cost → List ℕ
 costListing asked ws none = refused 6 0
-costListing asked ws (some total) = setRows asked ws (starts asked ws) total (moved asked ws)
+costListing asked ws (some total) = setRows asked ws (starts asked ws) total (moveCount asked ws)
 
 unfoldable pub checkedListing : Asked → List ℕ → Checked → List ℕ
 checkedListing asked ws (Refuse r) = refusal r
@@ -86,9 +86,9 @@ unfoldable pub askedListing : Asked → List ℕ → List ℕ
 askedListing asked ws = checkedListing asked ws (checked (holds asked) ws [] [])
 
 -- ---- the job: "A job is read to its end before anything is set." Its lengths have room.
-unfoldable pub listed : Reading → List ℕ
-listed (refuse r) = refusal r
-listed (accept asked ws) = askedListing asked ws
+unfoldable pub readingListing : Reading → List ℕ
+readingListing (refuse r) = refusal r
+readingListing (accept asked ws) = askedListing asked ws
 
 unfoldable pub listingOf : List ℕ → List ℕ
-listingOf job = listed (reading job mostWords)
+listingOf job = readingListing (reading job mostWords)

@@ -17,8 +17,8 @@ ListOutcome = Outcome Listed (List ℕ)
 
 -- Where there is room the bytes stand at the front and the rest is as it was. A buffer that is too short is left unchanged, and the
 -- answer says how many bytes there are.
-unfoldable pub outcome : List ℕ → List ℕ → ListOutcome
-outcome bytes s =
+unfoldable pub bytesOutcome : List ℕ → List ℕ → ListOutcome
+bytesOutcome bytes s =
     if (leb (length bytes) (length s))
     (record { answer = Written (length bytes); strips = over bytes s })
     (record { answer = Short (length bytes); strips = s })

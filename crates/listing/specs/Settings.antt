@@ -14,7 +14,7 @@ use Rattle.paper.specs.Paragraph.{end, line, charge, lines, paragraph}
 use Rattle.paper.specs.Index.{item, index, boundaries}
 use Rattle.paper_theory.specs.Ranges.{ranges}
 use Rattle.paper_theory.specs.Scale.{length-holds}
-use Rattle.paper_theory.specs.Bound.{admissible-lmax, admissible-lmin, charge-bound, paragraph-bound, index-bound}
+use Rattle.paper_theory.specs.Bound.{admissible-lmax, charge-bound, paragraph-bound, index-bound}
 use Rattle.paper_theory.specs.Cheapest.{paragraph-cheapest, index-cheapest}
 use Rattle.queue_theory.specs.Paragraph.{at-most-2n}
 use Rattle.pointer_theory.specs.Count.{pointer-count}
@@ -23,7 +23,7 @@ use Rattle.job.specs.declared.Asked.the-variants.{Paragraph as AskedParagraph, 
 use Rattle.rows.specs.Rows.{digits}
 use Rattle.rows.specs.Digits.{digits-width}
 use Rattle.rows.specs.Size.{row-one, row-two}
-use Rattle.listing.specs.Listing.{holds, least, starts, moved, values, startRow}
+use Rattle.listing.specs.Listing.{holds, least, starts, moveCount, values, startRow}
 use Rattle.listing.specs.Asks.{problem, Segment, Segments}
 
 -- ---- a line of a paragraph
@@ -31,10 +31,6 @@ module _ {l : Limits} {ws : List ℕ} {i j : ℕ} (p : Segment (AskedParagraph l
   pub line-high : line ws i j ≤ l .lmax
   unfolding problem paragraph settings lines
   line-high = admissible-lmax (lines l ws) i j (p .fits)
-
-  pub line-low : (j ≡ end ws → ⊥) → l .lmin ≤ line ws i j
-  unfolding problem paragraph settings lines
-  line-low h = admissible-lmin (lines l ws) i j (p .fits) h
 
 -- ---- a start's row has at most 20 bytes
 -- a number that is listed: one of a text, one of its moves
@@ -95,11 +91,11 @@ pub record SetIs (asked : Asked) (ws is : List ℕ) (total : ℕ) : Type 0 where
   pub all : Segments asked ws is
   pub few : length is ≤ length ws
   pub small : total < 2 ^ 40
-  pub moves : moved asked ws ≤ 2 * length ws
+  pub moves : moveCount asked ws ≤ 2 * length ws
 
 pub set-is : (asked : Asked) (ws : List ℕ) → Passed (holds asked) ws → (total : ℕ) → least asked ws ≡ some total →
     SetIs asked ws (starts asked ws) total
-unfolding holds least starts moved problem paragraph settings lines index
+unfolding holds least starts moveCount problem paragraph settings lines index
 set-is (AskedParagraph l) ws passed total e =
     let r = ranges l (passed .limits) in
     let right = paragraph-cheapest l ws (r .lopt-high) (passed .words) total e in

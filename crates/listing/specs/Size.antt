@@ -27,11 +27,11 @@ use Rattle.rows.specs.Size.{row-one, row-two}
 use Rattle.rows.specs.Puts.{sizes}
 use Rattle.listing.specs.declared.Listed.{Listed}
 use Rattle.listing.specs.declared.Listed.the-variants.{Written}
-use Rattle.listing.specs.Listing.{refused, refusal, holds, least, starts, moved, headed, head, startRow, startRows, movesRow}
-use Rattle.listing.specs.Listing.{costListing, checkedListing, askedListing, listed, listingOf}
+use Rattle.listing.specs.Listing.{refused, refusal, holds, least, starts, moveCount, headed, head, startRow, startRows, movesRow}
+use Rattle.listing.specs.Listing.{costListing, checkedListing, askedListing, readingListing, listingOf}
 use Rattle.listing.specs.Asks.{Segments}
 use Rattle.listing.specs.Settings.{four-digits, start-size, SetIs, set-is}
-use Rattle.listing.specs.Promise.{outcome}
+use Rattle.listing.specs.Promise.{bytesOutcome}
 use Rattle.listing.specs.Given.{with-room}
 
 abbrev pub mostBytes : ℕ
@@ -75,15 +75,16 @@ starts-size asked ws passed (i ∷ is) all =
     )
 
 pub set-size : (asked : Asked) (ws : List ℕ) → Passed (holds asked) ws → (total : ℕ) → SetIs asked ws (starts asked ws) total →
-    sizes (head asked (length ws) total (length (starts asked ws)) ∷ startRows asked ws (starts asked ws) ∷ movesRow (moved asked ws) ∷ [])
+    sizes
+    (head asked (length ws) total (length (starts asked ws)) ∷ startRows asked ws (starts asked ws) ∷ movesRow (moveCount asked ws) ∷ [])
     ≤ mostBytes
 set-size asked ws passed total s =
     omega (
       arith,
       head-size asked (length ws) total (length (starts asked ws)) (passed .few) (s .small) (omega (arith, s .few, passed .few)),
       starts-size asked ws passed (starts asked ws) (s .all),
-      row-one (ascii "moves") (moved asked ws),
-      four-digits (moved asked ws) (omega (arith, s .moves, passed .few)),
+      row-one (ascii "moves") (moveCount asked ws),
+      four-digits (moveCount asked ws) (omega (arith, s .moves, passed .few)),
       s .few,
       passed .few,
     )
@@ -145,16 +146,16 @@ asked-size asked ws = checked-size (checked (holds asked) ws [] []) refl (checke
     checked-size (Refuse r) e p = omega (arith, refusal-size r p)
     checked-size Accept e p = cost-size (accepted (holds asked) ws [] [] e .passed) (least asked ws) refl
 
-listed-size : (o : Reading) → Within mostWords o → length (listed o) ≤ mostBytes
-unfolding listed
-listed-size (refuse r) h = omega (arith, refusal-size r (omega (arith, h)))
-listed-size (accept asked ws) h = asked-size asked ws
+reading-size : (o : Reading) → Within mostWords o → length (readingListing o) ≤ mostBytes
+unfolding readingListing
+reading-size (refuse r) h = omega (arith, refusal-size r (omega (arith, h)))
+reading-size (accept asked ws) h = asked-size asked ws
 
 pub listing-size : (job : List ℕ) → length (listingOf job) ≤ mostBytes
 unfolding listingOf
-listing-size job = listed-size (reading job mostWords) (reading-within job mostWords)
+listing-size job = reading-size (reading job mostWords) (reading-within job mostWords)
 
 -- A buffer of so many bytes always gets the listing.
-pub always-written : (job s : List ℕ) {r : Listed} {t : List ℕ} → mostBytes ≤ length s → Promise Is (outcome (listingOf job) s) r t →
+pub always-written : (job s : List ℕ) {r : Listed} {t : List ℕ} → mostBytes ≤ length s → Promise Is (bytesOutcome (listingOf job) s) r t →
     r ≡ Written (length (listingOf job))
 always-written job s room p = with-room (listingOf job) s p (omega (arith, listing-size job)) .0

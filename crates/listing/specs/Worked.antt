@@ -6,25 +6,25 @@ use Rattle.paper.specs.Computes.{paragraphComputes, indexComputes}
 use Rattle.paper.specs.Paragraph as Paragraph
 use Rattle.paper.specs.Told.{toldRefusal}
 use Rattle.job.specs.Jobs as Jobs
-use Rattle.job.specs.Jobs.{bytes, P1, G1}
-use Rattle.rows.specs.Rows.{ascii, digitsIn, digits, ended, row}
-use Rattle.listing.specs.Listing.{refused, refusal, holds, least, starts, moved, head, values, startRows}
-use Rattle.listing.specs.Listing.{costListing, checkedListing, askedListing, listed, listingOf}
+use Rattle.job.specs.Jobs.{bytes, jobP1, jobG1}
+use Rattle.rows.specs.Rows.{ascii, digitsIn, digits, rowRest, row}
+use Rattle.listing.specs.Listing.{refused, refusal, holds, least, starts, moveCount, head, values, startRows}
+use Rattle.listing.specs.Listing.{costListing, checkedListing, askedListing, readingListing, listingOf}
 
 -- the listing, with all that it rests on open
 unfoldable worked : List ℕ → List ℕ
 unfolding Jobs.worked paragraphComputes indexComputes Paragraph.charge toldRefusal
-    digitsIn digits ended row refused refusal holds least starts moved head values startRows
-    costListing checkedListing askedListing listed listingOf
+    digitsIn digits rowRest row refused refusal holds least starts moveCount head values startRows
+    costListing checkedListing askedListing readingListing listingOf
 worked = listingOf
 
 -- "For the numbers 4 1 6 6 1 4 3 2 2 5 it prints:"
-pub listing-P1 : listingOf P1 ≡ ascii "paragraph 4\npenalty 13\nlines 3\n1 3 9\n2 4 4\n4 5 0\nmoves 7\n"
+pub listing-P1 : listingOf jobP1 ≡ ascii "paragraph 4\npenalty 13\nlines 3\n1 3 9\n2 4 4\n4 5 0\nmoves 7\n"
 unfolding worked
 listing-P1 = refl
 
 -- "For an index, with 2 2 7 4 3 4 2 5:"
-pub listing-G1 : listingOf G1 ≡ ascii "index 4\nkeys 2\nboundaries 1\n3 2\nmoves 3\n"
+pub listing-G1 : listingOf jobG1 ≡ ascii "index 4\nkeys 2\nboundaries 1\n3 2\nmoves 3\n"
 unfolding worked
 listing-G1 = refl
 

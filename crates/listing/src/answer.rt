@@ -17,7 +17,7 @@ ghost use Rattle.rows.specs.Puts.{Puts};
 ghost use Rattle.laws.specs.Outcome.{Promise, Is};
 ghost use Rattle.listing.specs.Listing.{setRows, askedListing};
 ghost use Rattle.listing.specs.Asks.{RowsAsk, Answered};
-ghost use Rattle.listing.specs.Promise.{outcome};
+ghost use Rattle.listing.specs.Promise.{bytesOutcome};
 
 // Puts all rows of a setting. Answers how many bytes they have.
 fn set_rows(
@@ -50,7 +50,7 @@ fn list_set(
 ) -> Listed
     requires { ⌜ RowsAsk asked (now lengths) (now sums) (now starts) total moves ⌝ }
     ensures { λ r. ⌜ Promise Is
-        (outcome (setRows asked (now (lengths .entry)) (now (starts .entry)) total moves) (now (out .entry)))
+        (bytesOutcome (setRows asked (now (lengths .entry)) (now (starts .entry)) total moves) (now (out .entry)))
         r (now (out .exit)) ⌝ }
 {
     let size = set_rows(asked, lengths, sums, starts, total, moves, &mut out[..0]);
@@ -72,7 +72,7 @@ fn list_answer(
 ) -> Listed
     requires { ⌜ Answered asked (now lengths) (now sums) (now starts) answer ⌝ }
     ensures { λ r. ⌜ Promise Is
-        (outcome (askedListing asked (now (lengths .entry))) (now (out .entry)))
+        (bytesOutcome (askedListing asked (now (lengths .entry))) (now (out .entry)))
         r (now (out .exit)) ⌝ }
 {
     match answer {
@@ -106,7 +106,7 @@ fn list_answer(
 // Lists a paragraph.
 fn list_paragraph(l: Limits, lengths: &[u32], out: &mut [u8]) -> Listed
     ensures { λ r. ⌜ Promise Is
-        (outcome (askedListing (Paragraph l) (now (lengths .entry))) (now (out .entry)))
+        (bytesOutcome (askedListing (Paragraph l) (now (lengths .entry))) (now (out .entry)))
         r (now (out .exit)) ⌝ }
 {
     let mut sums = [0u32; 4097];
@@ -131,7 +131,7 @@ fn list_paragraph(l: Limits, lengths: &[u32], out: &mut [u8]) -> Listed
 // Lists an index.
 fn list_index(l: PageLimits, lengths: &[u32], out: &mut [u8]) -> Listed
     ensures { λ r. ⌜ Promise Is
-        (outcome (askedListing (Index l) (now (lengths .entry))) (now (out .entry)))
+        (bytesOutcome (askedListing (Index l) (now (lengths .entry))) (now (out .entry)))
         r (now (out .exit)) ⌝ }
 {
     let mut sums = [0u32; 4097];
@@ -158,7 +158,7 @@ fn list_index(l: PageLimits, lengths: &[u32], out: &mut [u8]) -> Listed
 // Lists what is asked.
 pub fn list_asked(asked: Asked, lengths: &[u32], out: &mut [u8]) -> Listed
     ensures { λ r. ⌜ Promise Is
-        (outcome (askedListing asked (now (lengths .entry))) (now (out .entry)))
+        (bytesOutcome (askedListing asked (now (lengths .entry))) (now (out .entry)))
         r (now (out .exit)) ⌝ }
 {
     match asked {

@@ -11,7 +11,7 @@ use job::read;
 use refusal::refused;
 use refusal::told_job;
 ghost use Rattle.listing.specs.Listing.{listingOf};
-ghost use Rattle.listing.specs.Promise.{outcome};
+ghost use Rattle.listing.specs.Promise.{bytesOutcome};
 ghost use Rattle.laws.specs.Outcome.{Promise, Is};
 
 // The listing's bytes stand at the front of the buffer, so many of them; or the buffer is too short for so many and unchanged.
@@ -22,7 +22,7 @@ pub enum Listed {
 
 // Lists a job: reads it, sets what it asks for, and writes the listing of the setting or of the refusal.
 pub fn list(job: &[u8], out: &mut [u8]) -> Listed
-    ensures { λ r. ⌜ Promise Is (outcome (listingOf (now (job .entry))) (now (out .entry))) r (now (out .exit)) ⌝ }
+    ensures { λ r. ⌜ Promise Is (bytesOutcome (listingOf (now (job .entry))) (now (out .entry))) r (now (out .exit)) ⌝ }
 {
     let mut lengths = [0u32; 4096];
     let answer = read(job, &mut lengths);

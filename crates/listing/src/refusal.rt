@@ -6,7 +6,7 @@ use refusals::told_refusal;
 use rows::named;
 ghost use Rattle.job.specs.Promise.{toldJob};
 ghost use Rattle.listing.specs.Listing.{refused as refusedRow};
-ghost use Rattle.listing.specs.Promise.{outcome};
+ghost use Rattle.listing.specs.Promise.{bytesOutcome};
 ghost use Rattle.laws.specs.Outcome.{Promise, Is};
 ghost use Rattle.refusals.specs.Tells.{Tells};
 
@@ -24,7 +24,7 @@ pub fn told_job(j: Job) -> Reason
 }
 
 pub fn refused(reason: Reason, out: &mut [u8]) -> Listed
-    ensures { λ r. ⌜ Promise Is (outcome (refusedRow (reason .number) (reason .place)) (now (out .entry))) r (now (out .exit)) ⌝ }
+    ensures { λ r. ⌜ Promise Is (bytesOutcome (refusedRow (reason .number) (reason .place)) (now (out .entry))) r (now (out .exit)) ⌝ }
 {
     let number = reason.number as u64;
     let place = reason.place as u64;

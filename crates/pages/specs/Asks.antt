@@ -6,7 +6,7 @@ use lib.ListN.{length}
 use Rattle.laws.specs.Strip.{over}
 use Rattle.paper.specs.declared.PageLimits.{PageLimits}
 use Rattle.paper.specs.declared.Answer.{Answer}
-use Rattle.paper.specs.Allowed.{pageLimitsHold, Passed}
+use Rattle.paper.specs.Allowed.{pageLimitsHold, IndexPassed}
 use Rattle.paper.specs.Index as Index
 use Rattle.paper.specs.Moves.{code}
 use Rattle.paper.specs.PointerRules.{pointerMoves}
@@ -55,7 +55,7 @@ pub record PageStarts (l : PageLimits) (ws m : List ℕ) (taken : ℕ) (t : Poin
 -- ---- the strips
 -- a list that refusals 1 to 5 pass, but for the room of the boundaries
 pub record PageFillAsk (l : PageLimits) (ws S : List ℕ) (s : PointerStrips) : Type 0 where
-  pub passed : Passed (pageLimitsHold l) ws
+  pub passed : IndexPassed l ws
   pub sums : length ws + 1 ≤ length S
   pub best : length ws + 2 ≤ length (s .best)
   pub next : length ws + 2 ≤ length (s .next)

@@ -6,7 +6,6 @@ use mathlib.Core.Logic.{⊎-elim}
 use mathlib.Core.List.{List, _∷_}
 use native.Mathlib.Nat.{mul-le-mul, mul-le-mul-right}
 use native.Mathlib.Omega.{arith}
-use borrow.Author.Tests.{ne-eqb}
 use lib.Dec.{T, leb, eqb, leb→le}
 use lib.ListN.{length, getD, List·getD-eq-default}
 use Rattle.laws.specs.Number.{if, both, all, split}
@@ -57,12 +56,6 @@ module _ (p : Lines) (i j : ℕ) (t : T (admissible p i j)) where
       go : (b : Bool) → T (if b (within (p .lastmin)) (within (p .lmin))) → p .line i j ≤ p .lmax
       go true t = leb→le (p .line i j) (p .lmax) (both (leb (p .lastmin) (p .line i j)) (leb (p .line i j) (p .lmax)) t .1)
       go false t = leb→le (p .line i j) (p .lmax) (both (leb (p .lmin) (p .line i j)) (leb (p .line i j) (p .lmax)) t .1)
-
-  -- and every one but the last at least lmin
-  pub admissible-lmin : (j ≡ p .end → ⊥) → p .lmin ≤ p .line i j
-  unfolding admissible
-  admissible-lmin h =
-      leb→le (p .lmin) (p .line i j) (both (leb (p .lmin) (p .line i j)) (leb (p .line i j) (p .lmax)) (rw (ne-eqb j (p .end) h) at t) .0)
 
 -- a line within lmax costs at most C, with what its break is charged
 module _ (p : Lines) (C : ℕ) (each : (x : ℕ) → x ≤ p .lmax → (j : ℕ) → p .penalty x + p .break j ≤ C) where

@@ -7,7 +7,7 @@ use native.Mathlib.Omega.{arith}
 use lib.ListN.{length, getD, set}
 use Rattle.laws.specs.Number.{split}
 use Rattle.paper.specs.declared.PageLimits.{PageLimits}
-use Rattle.paper.specs.Allowed.{pageLimitsHold, Passed}
+use Rattle.paper.specs.Allowed.{IndexPassed}
 use Rattle.paper.specs.Index as Index
 use Rattle.paper.specs.Strips.{bestEntry}
 use Rattle.pointer_theory.specs.Ready.{best-last}
@@ -19,7 +19,7 @@ bestAt l ws k = bestEntry (Index.best l ws k)
 
 -- the best strip holds the bests of the indices from i on
 pub record PageBests (l : PageLimits) (ws B : List ℕ) (i : ℕ) : Type 0 where
-  pub passed : Passed (pageLimitsHold l) ws
+  pub passed : IndexPassed l ws
   pub entered : Entered (bestAt l ws) 0 (length ws) i B
 
 -- "The best of n+1 is 0"

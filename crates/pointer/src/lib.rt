@@ -105,23 +105,23 @@ fn point(
     jumps(l, i, sums, left, stepped.at, moves, stepped.moves)
 }
 
-// "from k = i+1, while best k > best i, Link k (its left becomes i) and go on at the right of k": own is the best of i.
+// "from k = i+1, while best k > best i, Link k (its left becomes i) and go on at the right of k": cost is the best of i.
 fn links(
     i: usize,
-    own: u64,
+    cost: u64,
     best: &[u64],
     left: &mut [u32],
     right: &[u32],
     moves: &mut [u32],
     count: usize,
 ) -> Reached
-    requires { ⌜ LinksAsk i own (now best) (linkStrips (now left) (now right) (now moves)) count ⌝ }
+    requires { ⌜ LinksAsk i cost (now best) (linkStrips (now left) (now right) (now moves)) count ⌝ }
     ensures { λ p. ⌜ LinksCame i (now (best .entry)) (linkStrips (now (left .entry)) (now (right .entry)) (now (moves .entry))) count
         p (now (left .exit)) (now (moves .exit)) ⌝ }
 {
     let mut k = i + 1;
     let mut taken = count;
-    while best[k] > own {
+    while best[k] > cost {
         left[k] = i as u32;
         put(
             moves,
@@ -143,21 +143,21 @@ fn links(
 // "Then, for i ≥ 1 only": the links, and "the k reached becomes the right of i". Answers the moves taken so far.
 fn join(
     i: usize,
-    own: u64,
+    cost: u64,
     best: &[u64],
     left: &mut [u32],
     right: &mut [u32],
     moves: &mut [u32],
     count: usize,
 ) -> usize
-    requires { ⌜ JoinAsk i own (now best) (linkStrips (now left) (now right) (now moves)) count ⌝ }
+    requires { ⌜ JoinAsk i cost (now best) (linkStrips (now left) (now right) (now moves)) count ⌝ }
     ensures { λ r. ⌜ JoinCame i (now (best .entry)) (linkStrips (now (left .entry)) (now (right .entry)) (now (moves .entry))) count
         r (linkStrips (now (left .exit)) (now (right .exit)) (now (moves .exit))) ⌝ }
 {
     if i == 0 {
         return count;
     }
-    let reached = links(i, own, best, left, right, moves, count);
+    let reached = links(i, cost, best, left, right, moves, count);
     right[i] = reached.at as u32;
     reached.moves
 }

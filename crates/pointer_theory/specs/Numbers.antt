@@ -9,11 +9,11 @@ use borrow.Author.Tests.{le-leb, lt-leb}
 use Rattle.laws.specs.Cost.{Cost, none, some, leq}
 use Rattle.paper.specs.declared.PageLimits.{PageLimits}
 use Rattle.paper.specs.Index as Index
-use Rattle.paper.specs.Allowed.{pageLimitsHold, Passed}
+use Rattle.paper.specs.Allowed.{IndexPassed}
 use Rattle.paper.specs.Strips.{bestEntry}
 use Rattle.paper_theory.specs.Bound.{index-bound}
 
-module _ (l : PageLimits) (ws : List ℕ) (passed : Passed (pageLimitsHold l) ws) where
+module _ (l : PageLimits) (ws : List ℕ) (passed : IndexPassed l ws) where
   small : (k v : ℕ) → k ≤ length ws + 1 → Index.best l ws k ≡ some v → v < 2 ^ 64 - 1
   small k v h e = omega (arith, index-bound l ws (passed .lengths) (passed .few) k v h e)
 

@@ -5,7 +5,7 @@ use mathlib.Core.List.{List, [], _∷_, _++_}
 use native.Mathlib.Omega.{arith}
 use lib.ListN.{length, getD, drop, length-append}
 use lib.Seq.{set-out}
-use Rattle.rows.specs.Rows.{space, digit, digits, ended, row}
+use Rattle.rows.specs.Rows.{space, digit, digits, rowRest, row}
 use Rattle.rows.specs.Digits.{digits-one, digits-more}
 use Rattle.rows.specs.Size.{row-size}
 use Rattle.rows.specs.Puts.{Fits, Puts, puts-then, Along, along-fits, along-more}
@@ -35,23 +35,23 @@ module _ (x at : ℕ) where
     then-put q = rw (digits-more x h, ← e) (puts-then p q)
 
 -- ---- the numbers that end a row: a turn, in which a space and a number are put
-module _ {xs : List ℕ} {k at : ℕ} {s : List ℕ} {next : ℕ} {t : List ℕ} (a : Along ended xs k at s next t) (more : k < length xs) where
-  spaced : ended (getD xs k 0 ∷ drop (k + 1) xs) ≡ (space ∷ digits (getD xs k 0)) ++ ended (drop (k + 1) xs)
-  unfolding ended
+module _ {xs : List ℕ} {k at : ℕ} {s : List ℕ} {next : ℕ} {t : List ℕ} (a : Along rowRest xs k at s next t) (more : k < length xs) where
+  spaced : rowRest (getD xs k 0 ∷ drop (k + 1) xs) ≡ (space ∷ digits (getD xs k 0)) ++ rowRest (drop (k + 1) xs)
+  unfolding rowRest
   spaced = refl
 
-  pub turn-fits : Fits at (ended xs ∷ []) → Fits next ((space ∷ []) ∷ digits (getD xs k 0) ∷ [])
+  pub turn-fits : Fits at (rowRest xs ∷ []) → Fits next ((space ∷ []) ∷ digits (getD xs k 0) ∷ [])
   turn-fits f = omega (arith, along-fits a more {piece = space ∷ digits (getD xs k 0)} spaced f)
 
   pub turn-more : {after end : ℕ} {m u : List ℕ} → Puts (space ∷ []) next t after m → Puts (digits (getD xs k 0)) after m end u →
-      Along ended xs (k + 1) at s end u
+      Along rowRest xs (k + 1) at s end u
   turn-more p q = along-more a more spaced (puts-then p q)
 
 -- ---- a row
 module _ (first xs : List ℕ) {at : ℕ} where
-  pub row-fits : Fits at (row first xs ∷ []) → Fits at (first ∷ ended xs ∷ [])
+  pub row-fits : Fits at (row first xs ∷ []) → Fits at (first ∷ rowRest xs ∷ [])
   row-fits f = omega (arith, row-size first xs)
 
-  pub row-put : {s t u : List ℕ} {next end : ℕ} → Puts first at s next t → Puts (ended xs) next t end u → Puts (row first xs) at s end u
+  pub row-put : {s t u : List ℕ} {next end : ℕ} → Puts first at s next t → Puts (rowRest xs) next t end u → Puts (row first xs) at s end u
   unfolding row
   row-put p q = puts-then p q

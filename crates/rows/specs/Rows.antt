@@ -32,13 +32,13 @@ unfoldable pub digits : ℕ → List ℕ
 digits x = digitsIn (x + 1) x
 
 -- numbers, each after a space, and the end of the row: "Every line ends in a line feed."
-unfoldable pub ended : List ℕ → List ℕ
-ended [] = feed ∷ []
-ended (x ∷ xs) = space ∷ (digits x ++ ended xs)
+unfoldable pub rowRest : List ℕ → List ℕ
+rowRest [] = feed ∷ []
+rowRest (x ∷ xs) = space ∷ (digits x ++ rowRest xs)
 
 -- a row: a word or a number, and then numbers
 unfoldable pub row : List ℕ → List ℕ → List ℕ
-row first xs = first ++ ended xs
+row first xs = first ++ rowRest xs
 
 -- ---- worked rows
 worked-digits : map digits (0 ∷ 7 ∷ 10 ∷ 4096 ∷ 18446744073709551615 ∷ [])
@@ -47,5 +47,5 @@ unfolding digits digitsIn
 worked-digits = refl
 
 worked-rows : row (ascii "refused") (6 ∷ 0 ∷ []) ++ row (digits 12) (3 ∷ 90 ∷ []) ≡ ascii "refused 6 0\n12 3 90\n"
-unfolding row ended digits digitsIn
+unfolding row rowRest digits digitsIn
 worked-rows = refl

@@ -3,7 +3,7 @@
 ghost use mathlib.Core.Path.{_≡_};
 ghost use mathlib.Core.List.{[], _∷_};
 ghost use Prim.Native.Nat.{_<_};
-ghost use Rattle.rows.specs.Rows.{digit, digits, ended, row};
+ghost use Rattle.rows.specs.Rows.{digit, digits, rowRest, row};
 ghost use Rattle.rows.specs.Puts.{Fits, Puts};
 
 // Puts a byte. Answers the next place.
@@ -54,8 +54,8 @@ pub fn number(out: &mut [u8], at: usize, x: u64) -> usize
 
 // Puts numbers, each after a space, and ends the row.
 fn end(out: &mut [u8], at: usize, numbers: &[u64]) -> usize
-    requires { ⌜ Fits at (ended (now numbers) ∷ []) ⌝ }
-    ensures { λ r. ⌜ Puts (ended (now (numbers .entry))) at (now (out .entry)) r (now (out .exit)) ⌝ }
+    requires { ⌜ Fits at (rowRest (now numbers) ∷ []) ⌝ }
+    ensures { λ r. ⌜ Puts (rowRest (now (numbers .entry))) at (now (out .entry)) r (now (out .exit)) ⌝ }
 {
     let mut next = at;
     let mut k = 0;

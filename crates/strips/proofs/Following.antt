@@ -18,7 +18,7 @@ pub record Following (N : List ℕ) (o n first : ℕ) (s₀ s : List ℕ) (at fo
   pub rose : first + found ≤ at
   pub len : length s ≡ length s₀
 
-module _ (N : List ℕ) (o n first : ℕ) (s₀ : List ℕ) where
+module _ {N : List ℕ} {o n first : ℕ} {s₀ : List ℕ} where
   pub following-first : FollowAsk N o n first s₀ → Following N o n first s₀ s₀ first 0
   following-first a = record {
     done = [];
@@ -30,7 +30,7 @@ module _ (N : List ℕ) (o n first : ℕ) (s₀ : List ℕ) where
     len = refl;
   }
 
-  module _ (s : List ℕ) (at found : ℕ) (f : Following N o n first s₀ s at found) where
+  module _ {s : List ℕ} {at found : ℕ} (f : Following N o n first s₀ s at found) where
     pub following-room : FollowAsk N o n first s₀ → at ≤ n → found < length s
     following-room a h = omega (arith, a .room, f .rose, f .len)
 

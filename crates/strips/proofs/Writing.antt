@@ -27,7 +27,7 @@ unfolding over entries
 filling-first ws [] h = absurd (omega arith)
 filling-first ws (x ∷ s) h = record { within = omega arith; is = rw (upTo-zero ws); sum = sym (upTo-zero ws); len = refl }
 
-module _ (ws s₀ s : List ℕ) (k total : ℕ) (f : Filling ws s₀ s k total) (more : k < length ws) where
+module _ {ws s₀ s : List ℕ} {k total : ℕ} (f : Filling ws s₀ s k total) (more : k < length ws) where
   total-next : total + getD ws k 0 ≡ upTo ws (k + 1)
   total-next = rw (add-one k) (omega (arith, f .sum, upTo-suc ws k more))
 
@@ -65,9 +65,9 @@ pub clearing-first : (s₀ : List ℕ) (n : ℕ) → Clearing s₀ n s₀ 0
 unfolding over
 clearing-first s₀ n = record { within = omega arith; is = refl; len = refl }
 
-pub clearing-more : (s₀ : List ℕ) (n : ℕ) (s : List ℕ) (k : ℕ) → Clearing s₀ n s k → k < n → n ≤ length s₀ →
+pub clearing-more : {s₀ : List ℕ} {n : ℕ} {s : List ℕ} {k : ℕ} → Clearing s₀ n s k → k < n → n ≤ length s₀ →
     Clearing s₀ n (set s k 0) (k + 1)
-clearing-more s₀ n s k c more room = record {
+clearing-more {s₀} {n} {s} {k} c more room = record {
   within = omega arith;
   is = ap (λ (l : List ℕ). set l k 0) (c .is)
       ∙ over-set (replicate k 0) s₀ 0 k (sym (length-replicate {A = ℕ} k 0)) (omega (arith, length-replicate {A = ℕ} k 0))
@@ -75,7 +75,7 @@ clearing-more s₀ n s k c more room = record {
   len = length-set s k 0 ∙ c .len;
 }
 
-pub clearing-done : (s₀ : List ℕ) (n : ℕ) (s : List ℕ) (k : ℕ) → Clearing s₀ n s k → n ≤ k → s ≡ over (replicate n 0) s₀
-clearing-done s₀ n s k c end =
+pub clearing-done : {s₀ : List ℕ} {n : ℕ} {s : List ℕ} {k : ℕ} → Clearing s₀ n s k → n ≤ k → s ≡ over (replicate n 0) s₀
+clearing-done {s₀} {n} {s} {k} c end =
     let e : k ≡ n = omega (arith, c .within) in
     c .is ∙ ap (λ (m : ℕ). over (replicate m 0) s₀) e

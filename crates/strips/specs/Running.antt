@@ -140,10 +140,3 @@ module _ {A B : Type 0} (s : Taken A) (f : A → Taken B) (c : ℕ) (m₀ m : Li
         count = simp length-append (omega (arith, first .count, second .count));
         stands = second .stands;
       })
-
--- one rule after the other, and then a third
-pub joined-assoc : {A B C : Type 0} (r : Taken A) (f : A → Taken B) (g : B → Taken C) →
-    joined (joined r f) g ≡ joined r (λ a. joined (f a) g)
-joined-assoc r f g =
-    ap (λ (l : List Move). record { moves = l; stands = g (f (r .stands) .stands) .stands })
-    (append-assoc (r .moves) (f (r .stands) .moves) (g (f (r .stands) .stands) .moves))

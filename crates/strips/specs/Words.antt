@@ -16,7 +16,7 @@ use Rattle.paper_theory.specs.Entries.{length-entries, getD-entries}
 unfoldable pub wordsOf : List ℕ → List ℕ
 wordsOf S = entries (λ k. getD S (suc k) 0 - getD S k 0) 0 (length S - 1)
 
--- the strip holds the sums of a text that refusals 1 to 5 pass
+-- the strip holds the sums of a text that refusals 1 to 4 pass
 pub record Holds (hold : Bool) (S : List ℕ) : Type 0 where
   pub passed : Passed hold (wordsOf S)
   pub is : S ≡ sums (wordsOf S)

@@ -2,7 +2,7 @@
 use paper::Kind;
 use paper::Move;
 ghost use mathlib.Core.Path.{_≡_};
-ghost use Prim.Native.Nat.{_+_, _≤_, _<_};
+ghost use Prim.Native.Nat.{_≤_};
 ghost use lib.ListN.{length, set, replicate};
 ghost use Rattle.laws.specs.Strip.{over};
 ghost use Rattle.paper.specs.Moves.{kindNumber, code};

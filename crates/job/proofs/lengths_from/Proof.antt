@@ -5,7 +5,7 @@ use borrow.Author.Needs.{needs}
 use denote.Ref.{now}
 use lib.ListN.{length, length-drop}
 use Rattle.laws.specs.Strip.{lent-is}
-use Rattle.job.specs.Section.{length-listed}
+use Rattle.job.specs.Section.{length-numbers}
 use Rattle.job.proofs.Sections.{cut-kept, whole-written}
 use Rattle.job.proofs.Answers.{refused, accepted, lengths-many, lengths-room, lengths-left, lengths-cut, lengths-whole}
 use Rattle.job.proofs.lengths_from.Statement.{statement}
@@ -40,7 +40,7 @@ returns-5 c =
     let read = rw (lent-is j a) at (section .section .ensures) in
     accepted _
     (lengths-whole _ _ _ _ _ (omega arith) (omega arith) read (omega arith) (omega (arith, ap length (lent-is j a), length-drop a j)))
-    (sym (length-listed _ _))
+    (sym (length-numbers _ _))
     (whole-written read (omega arith))
 
 pub lengths-from-spec : {M : Type 1} → statement M

@@ -10,11 +10,11 @@ use Rattle.pointer.proofs.links.Statement.{statement}
 use Rattle.pointer.proofs.links.Tie as tie
 
 abbrev Inv-loop : tie.InvT-loop
-Inv-loop i own best left₀ right moves₀ count k₀ taken₀ left moves k taken =
+Inv-loop i cost best left₀ right moves₀ count k₀ taken₀ left moves k taken =
     Joining i best (linkStrips left₀ right moves₀) count left moves k taken
 
 abbrev μ-loop : tie.MeasureT-loop
-μ-loop i own best left₀ right moves₀ count k₀ taken₀ left moves k taken = length best - k
+μ-loop i cost best left₀ right moves₀ count k₀ taken₀ left moves k taken = length best - k
 
 add-k : tie.Need-add-k Inv-loop μ-loop
 add-k c = omega (arith, bests-size (c .before .before .before .before .pre .bests))

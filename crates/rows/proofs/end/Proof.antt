@@ -4,14 +4,14 @@ use Prim.Native.Nat.{_-_}
 use mathlib.Core.Path.{_∙_}
 use native.Mathlib.Omega.{arith}
 use lib.ListN.{length}
-use Rattle.rows.specs.Rows.{ended}
+use Rattle.rows.specs.Rows.{rowRest}
 use Rattle.rows.specs.Puts.{puts-length, Along, along-first, along-length, last-fits, along-end}
 use Rattle.rows.proofs.Turns.{turn-fits, turn-more}
 use Rattle.rows.proofs.end.Statement.{statement}
 use Rattle.rows.proofs.end.Tie as tie
 
 abbrev Inv-loop : tie.InvT-loop
-Inv-loop out₀ at numbers next₀ k₀ out next k = Along ended numbers k at out₀ next out
+Inv-loop out₀ at numbers next₀ k₀ out next k = Along rowRest numbers k at out₀ next out
 
 abbrev μ-loop : tie.MeasureT-loop
 μ-loop out₀ at numbers next₀ k₀ out next k = length numbers - k
@@ -36,14 +36,14 @@ loop-again c =
     turn-more (test .before .loop .inv) (test .loop-test .taken) (space .put .ensures) (c .before .before .number .ensures)
 
 put-requires-2 : tie.Need-put-requires-2 Inv-loop μ-loop
-unfolding ended
+unfolding rowRest
 put-requires-2 c κs = last-fits (c .before .before .loop .inv) (c .before .loop-test .left) (c .before .before .before .before .before .pre)
 
 same-length : tie.Need-same-length Inv-loop μ-loop
 same-length c = puts-length (c .before .before .put2 .ensures) ∙ along-length (c .before .before .before .before .before .loop .inv)
 
 returns : tie.Need-returns Inv-loop μ-loop
-unfolding ended
+unfolding rowRest
 returns c =
     let test = c .before .before .before .before in
     along-end (test .before .loop .inv) (test .loop-test .left) (c .before .before .put2 .ensures)

@@ -19,13 +19,13 @@ mul-strip : tie.Need-mul-strip Inv-loop μ-loop
 mul-strip c = omega (arith, c .before .before .pre, c .before .before .good, c .before .loop .inv .len)
 
 loop-again : tie.Need-loop-again Inv-loop μ-loop
-loop-again c = clearing-more _ _ _ _ (c .before .loop .inv) (c .loop-test .taken) (c .before .before .pre)
+loop-again c = clearing-more (c .before .loop .inv) (c .loop-test .taken) (c .before .before .pre)
 
 same-length : tie.Need-same-length Inv-loop μ-loop
 same-length c = c .before .loop .inv .len
 
 returns : tie.Need-returns Inv-loop μ-loop
-returns c = clearing-done _ _ _ _ (c .before .loop .inv) (c .loop-test .left)
+returns c = clearing-done (c .before .loop .inv) (c .loop-test .left)
 
 pub clear-spec : {M : Type 1} → statement M
 clear-spec =

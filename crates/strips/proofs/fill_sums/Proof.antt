@@ -23,7 +23,7 @@ add-total c =
     let pre = c .before .before .before .pre in
     let loop = c .before .before .loop in
     let loop-test = c .before .loop-test in
-    omega (arith, filling-fits _ _ _ _ _ (loop .inv) (loop-test .taken) (pre .allowed) (pre .few))
+    omega (arith, filling-fits (loop .inv) (loop-test .taken) (pre .allowed) (pre .few))
 
 mul-sums : tie.Need-mul-sums Inv-loop μ-loop
 mul-sums c = omega (arith, c .before .before .before .pre, c .before .before .before .good)
@@ -41,7 +41,7 @@ loop-again c =
     let pre = c .before .before .before .pre in
     let loop = c .before .before .loop in
     let loop-test = c .before .loop-test in
-    filling-more _ _ _ _ _ (loop .inv) (loop-test .taken) (omega (arith, pre, length-set (now (args .sums)) 0 0))
+    filling-more (loop .inv) (loop-test .taken) (omega (arith, pre, length-set (now (args .sums)) 0 0))
 
 same-length : tie.Need-same-length Inv-loop μ-loop
 same-length c = c .before .loop .inv .len ∙ simp length-set

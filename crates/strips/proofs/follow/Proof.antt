@@ -13,7 +13,7 @@ abbrev μ-loop : tie.MeasureT-loop
 μ-loop next offset n first answer₀ at₀ found₀ answer at found = n + 1 - at
 
 loop-holds : tie.Need-loop-holds Inv-loop μ-loop
-loop-holds c = following-first _ _ _ _ _ (c .pre)
+loop-holds c = following-first (c .pre)
 
 cast-answer : tie.Need-cast-answer Inv-loop μ-loop
 cast-answer c = omega (arith, c .loop-test .taken, c .before .before .pre .few)
@@ -23,17 +23,17 @@ mul-answer c =
     let good = c .before .before .good in
     let pre = c .before .before .pre in
     let loop = c .before .loop in
-    omega (arith, following-room _ _ _ _ _ _ _ _ (loop .inv) pre (c .loop-test .taken), loop .inv .len, good)
+    omega (arith, following-room (loop .inv) pre (c .loop-test .taken), loop .inv .len, good)
 
 slice-write-answer : tie.Need-slice-write-answer Inv-loop μ-loop
-slice-write-answer c = following-room _ _ _ _ _ _ _ _ (c .before .loop .inv) (c .before .before .pre) (c .loop-test .taken)
+slice-write-answer c = following-room (c .before .loop .inv) (c .before .before .pre) (c .loop-test .taken)
 
 add-found : tie.Need-add-found Inv-loop μ-loop
 add-found c =
     let good = c .before .before .good in
     let pre = c .before .before .pre in
     let loop = c .before .loop in
-    omega (arith, following-room _ _ _ _ _ _ _ _ (loop .inv) pre (c .loop-test .taken), loop .inv .len, good)
+    omega (arith, following-room (loop .inv) pre (c .loop-test .taken), loop .inv .len, good)
 
 sub-at : tie.Need-sub-at Inv-loop μ-loop
 sub-at c = c .before .loop .inv .leads .from
@@ -58,13 +58,13 @@ loop-less c =
     omega (arith, loop-test .taken, leads-rises _ _ _ _ (loop .inv .leads) (loop-test .taken))
 
 loop-again : tie.Need-loop-again Inv-loop μ-loop
-loop-again c = following-more _ _ _ _ _ _ _ _ (c .before .before .loop .inv) (c .before .before .before .pre) (c .before .loop-test .taken)
+loop-again c = following-more (c .before .before .loop .inv) (c .before .before .before .pre) (c .before .loop-test .taken)
 
 same-length : tie.Need-same-length Inv-loop μ-loop
 same-length c = c .before .loop .inv .len
 
 returns : tie.Need-returns Inv-loop μ-loop
-returns c = following-done _ _ _ _ _ _ _ _ (c .before .loop .inv) (c .loop-test .left)
+returns c = following-done (c .before .loop .inv) (c .loop-test .left)
 
 pub follow-spec : {M : Type 1} → statement M
 follow-spec =
