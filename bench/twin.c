@@ -181,7 +181,7 @@ HathurmoTold TWIN_NAME(penalty)(HathurmoLimits limits, uint32_t length) {
     if (length > 16773120)
         return refused(HATHURMO_LENGTH, 0);
     HathurmoTold told = refused(HATHURMO_SET, 0);
-    told.total = penalty(limits, length);
+    told.total = limits.lmin <= length && length <= limits.lmax ? penalty(limits, length) : HATHURMO_OUTSIDE;
     return told;
 }
 

@@ -44,6 +44,9 @@ enum {
 /* The best of a start that has no setting. */
 #define HATHURMO_NO_SETTING UINT64_MAX
 
+/* The total that is told of the penalty of a line outside the measure: above every penalty. */
+#define HATHURMO_OUTSIDE UINT64_MAX
+
 /* Limits of a paragraph: 1 <= lmin <= lopt <= lmax <= 4,095, lmin < lmax, a from 1 to 15. */
 typedef struct {
     uint32_t lmin, lopt, lmax, a;
@@ -99,7 +102,8 @@ HathurmoTold hathurmo_set_index(HathurmoPageLimits limits, const uint32_t *lengt
                                 uint32_t *right, size_t right_len, uint32_t *moves, size_t moves_len,
                                 uint32_t *boundaries, size_t boundaries_len);
 
-/* The penalty a * (length - lopt)^2 of one line as the total, inside the measure or not. Lines and moves are 0.
+/* The penalty a * (length - lopt)^2 of one line as the total. A line shorter than lmin or longer than lmax has none: the number is 0
+ * and the total HATHURMO_OUTSIDE. Lines and moves are 0. That a last line of at most lopt costs nothing is not looked at here.
  * Refusals: LIMITS; then LENGTH, place 0, where the length is above 16,773,120. */
 HathurmoTold hathurmo_penalty(HathurmoLimits limits, uint32_t length);
 

@@ -16,7 +16,8 @@ that 01 asks for and 2 more, in decimal, and then what was told:
     best: ..
     told NUMBER PLACE TOTAL LINES MOVES
 Paragraph: sums best next queue moves breaks. Index: sums best next left right moves boundaries. "No setting" is printed as
-18446744073709551615. A strip that needs no entry (n = 0) still has its 2, so no line is empty.
+18446744073709551615. A strip that needs no entry (n = 0) still has its 2, so no line is empty. A paragraph has one line more for each
+of its lengths: what is told of the penalty of a line of that length, asked for alone, in the same form.
 """
 import pathlib
 import random
@@ -136,14 +137,17 @@ def long_jobs():
 
 
 def traced_jobs():
-    """Every marked row, every second-inequality list, bridged rears, some refusals, some dozens at random; n at most 12."""
+    """Every marked row, every second-inequality list, bridged rears, some refusals, lines at the edges of a measure, some dozens at random;
+    n at most 12."""
     r = random.Random(SEED + 2)
     refused = [
         job_of(Limits(1, 6, 6, 1), []), job_of(PageLimits(2, 7), []), job_of(Limits(1, 6, 6, 16), [3, 2]),
         job_of(PageLimits(7, 7), [3, 2]), job_of(Limits(1, 6, 6, 1), [3, 0]), job_of(PageLimits(2, 7), [3, 2, 4096]),
         job_of(Limits(9, 9, 10, 1), [8] * 12), job_of(PageLimits(9, 10), [8] * 12),
     ]
-    return marked_jobs() + chord_jobs() + bridged_jobs(r, 12) + refused + random_jobs(r, 72, 12)
+    asked = [5, 6, 7, 8, 9, 10, 11, 0, 4096, oracle.MOST_ALONE, oracle.MOST_ALONE + 1, 2**32 - 1]
+    lines = [job_of(Limits(6, 8, 10, 15), asked), job_of(Limits(6, 8, 6, 1), asked), job_of(Limits(1, 1, 4095, 15), asked[1:] + [4095])]
+    return marked_jobs() + chord_jobs() + bridged_jobs(r, 12) + refused + lines + random_jobs(r, 72, 12)
 
 
 # ---- the files --------------------------------------------------------------------------------------------------------
@@ -161,7 +165,8 @@ def trace(job_bytes):
     names = oracle.PARAGRAPH_STRIPS if isinstance(job.limits, Limits) else oracle.INDEX_STRIPS
     told, strips = oracle.set_job(job, more=2, fill=7)
     rows = [f"{name}: {' '.join(map(str, strip))}" for name, strip in zip(names, strips)]
-    return "".join(row + "\n" for row in rows + ["told " + " ".join(map(str, told))])
+    alone = [oracle.penalty_alone(job.limits, x) for x in job.lengths] if isinstance(job.limits, Limits) else []
+    return "".join(row + "\n" for row in rows + ["told " + " ".join(map(str, numbers)) for numbers in [told, *alone]])
 
 
 def files():

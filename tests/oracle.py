@@ -50,6 +50,8 @@ def gap(lengths, a, b):
 
 
 def penalty(limits, x):
+    """The penalty formula. W-204: no way of setting, and no queue rule, ever applies it to a line outside the measure."""
+    assert limits.lmin <= x <= limits.lmax, f"a line of {x} is outside {limits}"
     return limits.a * (x - limits.lopt) ** 2
 
 
@@ -419,11 +421,13 @@ def set_index(limits, lengths, strips):
 
 
 def penalty_alone(limits, length):
-    """The penalty formula asked for alone: the total is the penalty."""
+    """The penalty of one line asked for alone: the total is the penalty, or NO_SETTING where the line is outside the measure."""
     if not paragraph_limits_hold(limits):
         return Told(LIMITS, 0, 0, 0, 0)
     if length > MOST_ALONE:
         return Told(LENGTH, 0, 0, 0, 0)
+    if not limits.lmin <= length <= limits.lmax:
+        return Told(0, 0, NO_SETTING, 0, 0)
     return Told(0, 0, penalty(limits, length), 0, 0)
 
 
@@ -722,9 +726,13 @@ def test_edges():
 
 def test_penalty():
     assert penalty_alone(Limits(1, 6, 6, 1), 3).total == 9
-    assert penalty_alone(Limits(1, 1, 4095, 15), MOST_ALONE).total == 15 * (MOST_ALONE - 1) ** 2
-    assert penalty_alone(Limits(1, 1, 4095, 15), MOST_ALONE + 1) == Told(LENGTH, 0, 0, 0, 0)
-    assert penalty_alone(Limits(1, 1, 1, 15), MOST_ALONE + 1) == Told(LIMITS, 0, 0, 0, 0)
+    limits = Limits(6, 8, 10, 15)
+    assert [penalty_alone(limits, x).total for x in (6, 8, 10)] == [60, 0, 60]
+    for x in (5, 11, 0, MOST_ALONE):
+        assert penalty_alone(limits, x) == Told(0, 0, NO_SETTING, 0, 0)
+    assert penalty_alone(limits, MOST_ALONE + 1) == Told(LENGTH, 0, 0, 0, 0)
+    assert penalty_alone(Limits(6, 8, 6, 1), MOST_ALONE + 1) == Told(LIMITS, 0, 0, 0, 0)
+    assert penalty_alone(Limits(1, 1, 4095, 15), 4095).total == 15 * 4094 ** 2
 
 
 def test_room():

@@ -261,10 +261,29 @@ pub fn set_index(limits: PageLimits, lengths: &[u32], strips: IndexStrips<'_>) -
     })
 }
 
-/// The penalty of one line of a length from 0 to 16,773,120, inside the measure or not.
-pub fn penalty(limits: Limits, length: u32) -> Result<u64, Refusal> {
+/// The penalty of one line.
+#[derive(Clone, Copy, Debug, PartialEq, Eq)]
+pub enum Penalty {
+    /// The line is inside the measure, and costs this.
+    Of(u64),
+    /// The line is shorter than lmin or longer than lmax: it has no penalty.
+    Outside,
+}
+
+/// The penalty of one line of a length from 0 to 16,773,120, wherever it stands: that a last line of at most lopt costs nothing is
+/// not looked at here.
+///
+/// ```
+/// use hathurmo::{penalty, Limits, Penalty};
+///
+/// let limits = Limits { lmin: 6, lopt: 8, lmax: 10, a: 15 };
+/// assert_eq!(penalty(limits, 10), Ok(Penalty::Of(60)));
+/// assert_eq!(penalty(limits, 11), Ok(Penalty::Outside));
+/// ```
+pub fn penalty(limits: Limits, length: u32) -> Result<Penalty, Refusal> {
     // SAFETY: numbers in, numbers out.
-    setting(unsafe { raw::hathurmo_penalty(limits, length) }).map(|setting| setting.total)
+    let told = setting(unsafe { raw::hathurmo_penalty(limits, length) })?;
+    Ok(if told.total == raw::OUTSIDE { Penalty::Outside } else { Penalty::Of(told.total) })
 }
 
 /// A job as read: its limits, and how many lengths were written.

@@ -29,6 +29,9 @@ pub struct Told {
     pub moves: u64,
 }
 
+/// The total that is told of the penalty of a line outside the measure.
+pub const OUTSIDE: u64 = u64::MAX;
+
 /// A job as read; `count` is 4, 2, or 0 where it is refused.
 #[repr(C)]
 #[derive(Clone, Copy, Debug, PartialEq, Eq)]

@@ -85,10 +85,16 @@ fn moves_of_the_first_rows() {
 
 #[test]
 fn penalties_alone() {
-    assert_eq!(penalty(limits(1, 6, 6, 1), 3), Ok(9));
-    assert_eq!(penalty(limits(1, 1, 4095, 15), 16_773_120), Ok(15 * 16_773_119 * 16_773_119));
-    assert_eq!(penalty(limits(1, 6, 6, 1), 16_773_121), Err(Refusal::Length { word: 0 }));
-    assert_eq!(penalty(limits(0, 6, 6, 1), 3), Err(Refusal::Limits));
+    let measure = limits(6, 8, 10, 15);
+    for (length, cost) in [(6, 60), (8, 0), (10, 60)] {
+        assert_eq!(penalty(measure, length), Ok(Penalty::Of(cost)));
+    }
+    for length in [0, 5, 11, 16_773_120] {
+        assert_eq!(penalty(measure, length), Ok(Penalty::Outside));
+    }
+    assert_eq!(penalty(measure, 16_773_121), Err(Refusal::Length { word: 0 }));
+    assert_eq!(penalty(limits(6, 8, 6, 1), 16_773_121), Err(Refusal::Limits));
+    assert_eq!(penalty(limits(1, 1, 4095, 15), 4095), Ok(Penalty::Of(15 * 4094 * 4094)));
 }
 
 #[test]

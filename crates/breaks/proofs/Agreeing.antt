@@ -10,11 +10,12 @@ use lib.Dec.{ltb}
 use lib.ListN.{length, getD}
 use Rattle.laws.specs.Number.{if, split}
 use Rattle.laws.specs.Cost.{Cost, none, some}
-use Rattle.laws.specs.Members.{Every}
+use Rattle.laws.specs.Members.{Every, every-each}
 use Rattle.paper.specs.declared.Limits.{Limits}
 use Rattle.paper.specs.Allowed.{limitsHold}
 use Rattle.paper.specs.Paragraph.{line, end, best, chosenNext, penalty, lines}
 use Rattle.paper.specs.QueueRules.{Text, Standing, textOf, takenBest, takenNext, atStart, afterStarts, queueAt}
+use Rattle.paper.specs.Applied.{applied, frontApplied}
 use Rattle.paper.specs.Strips.{bestEntry}
 use Rattle.paper_theory.specs.Bound.{paragraph-bound}
 use Rattle.paper_theory.specs.Cheapest.{best-last}
@@ -103,10 +104,9 @@ module _ (l : Limits) (S B : List ℕ) (i : ℕ) (d : Done l S B i) where
         here : from i i ≡ line ws i i
         here = let e : line ws i i ≡ 0 = omega (arith, line-scale ws i i first (omega arith)) in rw (le-ltb i i (omega arith)) (sym e)
 
-    agrees : Agrees (textOf l ws) (penalty l) from (span S) (λ k. costOf (getD B (k - 1) 0)) i
+    agrees : Agrees (textOf l ws) from (span S) (λ k. costOf (getD B (k - 1) 0)) i
     unfolding textOf lines
     agrees = record {
-      inside = λ x low high. refl;
       from-start = from-start;
       between = λ j k ij jk high. spans j k (omega arith) jk high;
       later = λ k ik high.
@@ -114,16 +114,20 @@ module _ (l : Limits) (S B : List ℕ) (i : ℕ) (d : Done l S B i) where
           ap costOf (best-held k first ik inside) ∙ entry-back (best l ws k) (λ v e. fits k v (omega arith) inside e);
     }
 
+    same-formula : (xs : List ℕ) → Every (λ (x : ℕ). penalty l x ≡ penalty l x) xs
+    same-formula = every-each (λ (x : ℕ). penalty l x ≡ penalty l x) (λ x. refl)
+
     module _ (early : i ≤ length ws) where
       -- the rules of start i on the strips are those on the words
       pub held-rules : (s : Standing) → afterStarts (textOf l ws) (length ws) (length ws - i) .stands ≡ s →
           atStart (textHeld l S B i) i s ≡ queueAt (textOf l ws) (length ws) i
-      unfolding textIn queueAt textOf lines from
+      unfolding textIn queueAt textOf lines from applied
       held-rules s e =
           subst (λ (z : Standing). atStart (textHeld l S B i) i z ≡ queueAt (textOf l ws) (length ws) i) e
-          (atStart-same (scaled l ws (d .holds .passed)) (length S) (λ j. 0) first agrees
+          (atStart-same (scaled l ws (d .holds .passed)) (length S) (penalty l) (λ j. 0) first agrees
           (afterStarts (textOf l ws) (length ws) (length ws - i) .stands)
-          (stood-before (scaled l ws (d .holds .passed)) (length ws) (size l ws (d .holds .passed)) i early))
+          (stood-before (scaled l ws (d .holds .passed)) (length ws) (size l ws (d .holds .passed)) i early)
+          (same-formula (applied l ws i)))
 
       -- and what it takes is its best and its chosen next
       pub held-takes : (q : List ℕ) → queueAt (textOf l ws) (length ws) i .stands .queue ≡ q →
@@ -133,6 +137,7 @@ module _ (l : Limits) (S B : List ℕ) (i : ℕ) (d : Done l S B i) where
           let passed = d .holds .passed in
           let live = subst (Every (Measured (textOf l ws) i)) e
           (stood-after (scaled l ws passed) (length ws) (size l ws passed) i first early .held .live) in
-          let same = taken-same (scaled l ws passed) (length S) (λ j. 0) first agrees (omega arith) held-size q live in
+          let same = taken-same (scaled l ws passed) (length S) (penalty l) (λ j. 0) first agrees (omega arith) held-size q live
+          (same-formula (frontApplied (textOf l ws) i q)) in
           let takes = start-takes l ws passed i first early in
           (same .0 ∙ rw e at (takes .0), same .1 ∙ rw e at (takes .1))

@@ -14,7 +14,7 @@ use setter::set_index;
 use setter::set_paragraph;
 ghost use mathlib.Core.Path.{_≡_};
 ghost use Rattle.paper.specs.Strips.{paragraphStrips, paragraphOutcome, indexStrips, indexOutcome};
-ghost use Rattle.paper.specs.Told.{told, toldRefusal, toldPenalty, penaltyAlone};
+ghost use Rattle.paper.specs.Told.{told, toldRefusal, toldTotal, toldPenalty, penaltyAlone};
 ghost use Rattle.job.specs.Reader.{readOutcome};
 ghost use Rattle.job.specs.Promise.{toldJob};
 ghost use Rattle.job.specs.declared.Job.the-variants.{Read};
@@ -42,6 +42,9 @@ pub struct JobNumbers {
     pub a: u32,
     pub n: u64,
 }
+
+// The total that is told of a line outside the measure: 2^64 - 1, "no setting".
+const OUTSIDE: u64 = 18446744073709551615;
 
 fn tell_refusal(r: Refusal) -> Numbers
     ensures { λ t. ⌜ t ≡ inNumbers (toldRefusal r) ⌝ }
@@ -82,17 +85,25 @@ fn tell(a: Answer) -> Numbers
     }
 }
 
+// A total and nothing else.
+fn tell_total(total: u64) -> Numbers
+    ensures { λ t. ⌜ t ≡ inNumbers (toldTotal total) ⌝ }
+{
+    Numbers {
+        number: 0,
+        place: 0,
+        total,
+        lines: 0,
+        moves: 0,
+    }
+}
+
 fn tell_penalty(p: Penalty) -> Numbers
     ensures { λ t. ⌜ t ≡ inNumbers (toldPenalty p) ⌝ }
 {
     match p {
-        Penalty::Of(penalty) => Numbers {
-            number: 0,
-            place: 0,
-            total: penalty,
-            lines: 0,
-            moves: 0,
-        },
+        Penalty::Of(penalty) => tell_total(penalty),
+        Penalty::Outside => tell_total(OUTSIDE),
         Penalty::Refused(r) => tell_refusal(r),
     }
 }

@@ -11,6 +11,7 @@ use Rattle.laws.specs.Number.{both}
 use Rattle.laws.specs.Cost.{Cost, none, some, _≼_, leq, leq→≼, ≼→leq, ≼-refl, ≼-antisym, some-inj, Has, before, before-has}
 use Rattle.laws.specs.Search.{Tie, Ahead, Found, pick, pick-is, ahead-antisym}
 use Rattle.laws.specs.Setting.{Problem, Monotone, Choice, Admissible, admissible-early, total, LeastTotal, through, Step}
+use Rattle.laws.specs.Setting.{Wider, wider-choice, wider}
 use Rattle.laws.specs.Table.{best, best-steps, best-end, best-is}
 
 -- j is the chosen next of start i, where c is the best of i and b has the costs of the later starts: i has a setting, the line to j gives
@@ -98,6 +99,51 @@ module _ (p : Problem) (tie : Tie) (i : ℕ) (early : i < p .end) where
   pub next-none : best p i ≡ none → next p tie i ≡ 0
   unfolding next
   next-none e = rw e
+
+-- ---- Two problems that admit the same lines, at the same costs, have the same bests and choose alike.
+module _ (p q : Problem) (mono : Monotone p) (also : Monotone q) (there : Wider p q) (back : Wider q p) where
+  pub best-alike : (i : ℕ) → i ≤ p .end → best p i ≡ best q i
+  best-alike i h =
+      let u = best-is p mono i h in
+      let v = best-is q also i (omega (arith, there .ends)) in
+      ≼-antisym (best p i) (best q i) (wider q p back i (best q i) (best p i) (omega (arith, there .ends)) v u)
+      (wider p q there i (best p i) (best q i) h u v)
+
+  through-alike : (i j : ℕ) → Choice p i j → through p (best p) i j ≡ through q (best q) i j
+  through-alike i j ch =
+      rw (best-alike j (ch .within), ← there .cost i j (ch .admissible)) (joins (best q j))
+    where
+      joins : (a : Cost) → before (p .join) (q .cost i j) a ≡ before (q .join) (q .cost i j) a
+      joins none = refl
+      joins (some n) = ap some (sym (there .join (q .cost i j) n))
+
+  module _ (tie : Tie) (i : ℕ) (early : i < p .end) where
+    next-back : (j : ℕ) → Next q tie i j → Next p tie i j
+    next-back j n =
+        let here = best-alike i (omega arith) in
+        let choice = wider-choice q p back i j (n .choice) in
+        record {
+          has = subst Has (sym here) (n .has);
+          choice = choice;
+          gives = through-alike i j choice ∙ n .gives ∙ sym here;
+          ahead = λ k ch e. n .ahead k (wider-choice p q there i k ch) (sym (through-alike i k ch) ∙ e ∙ here);
+        }
+
+    pub next-alike : next p tie i ≡ next q tie i
+    next-alike =
+        go (best p i) refl
+      where
+        here : best p i ≡ best q i
+        here = best-alike i (omega arith)
+
+        later : i < q .end
+        later = omega (arith, there .ends)
+
+        go : (c : Cost) → best p i ≡ c → next p tie i ≡ next q tie i
+        go none e = next-none p tie i early e ∙ sym (next-none q tie i later (sym here ∙ e))
+        go (some v) e =
+            let has : Has (best p i) = rw e tt in
+            next-unique (next-is p tie i early has) (next-back (next q tie i) (next-is q tie i later (subst Has here has)))
 
 -- ---- the setting that follows the chosen nexts
 module _ (p : Problem) (tie : ℕ → Tie) where

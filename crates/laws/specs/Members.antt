@@ -3,9 +3,11 @@
 use Prim.Native.Nat.{ℕ, zero, suc, _+_, _-_, _≤_, _<_}
 use mathlib.Core.Path.{_≡_, refl, subst}
 use mathlib.Core.Logic.{_⊎_, inl, inr}
+use mathlib.Core.Bool.{Bool, true, false}
 use mathlib.Core.List.{List, [], _∷_, _++_, reverseAux, reverse, reverse-append, reverse-cons, reverse-reverse}
 use native.Mathlib.Numerals.{add-one}
 use native.Mathlib.Omega.{arith}
+use lib.Dec.{T}
 use lib.ListN.{length, getD, take, set}
 use lib.Seq.{slice, slice-empty, slice-cons, take-suc, take-suc-set, drop-append-le, length-take-le}
 
@@ -15,6 +17,15 @@ Every P [] = Unit {0}
 Every P (x ∷ xs) = P x × Every P xs
 
 module _ {A : Type 0} where
+  pub every-each : (P : A → Type 0) → ((x : A) → P x) → (xs : List A) → Every P xs
+  every-each P f [] = tt
+  every-each P f (x ∷ xs) = (f x, every-each P f xs)
+
+  -- of a list that stands where a test holds
+  pub every-if : (P : A → Type 0) (b : Bool) (xs : List A) → (T b → Every P xs) → Every P (elim b [ true ↦ xs | false ↦ [] ])
+  every-if P true xs h = h tt
+  every-if P false xs h = tt
+
   pub every-map : (P Q : A → Type 0) → ((x : A) → P x → Q x) → (xs : List A) → Every P xs → Every Q xs
   every-map P Q f [] h = tt
   every-map P Q f (x ∷ xs) h = (f x (h .0), every-map P Q f xs (h .1))
@@ -22,6 +33,14 @@ module _ {A : Type 0} where
   pub every-map2 : (P Q R : A → Type 0) → ((x : A) → P x → Q x → R x) → (xs : List A) → Every P xs → Every Q xs → Every R xs
   every-map2 P Q R f [] h g = tt
   every-map2 P Q R f (x ∷ xs) h g = (f x (h .0) (g .0), every-map2 P Q R f xs (h .1) (g .1))
+
+  pub every-join : (P : A → Type 0) (xs ys : List A) → Every P xs → Every P ys → Every P (xs ++ ys)
+  every-join P [] ys h g = g
+  every-join P (x ∷ xs) ys h g = (h .0, every-join P xs ys (h .1) g)
+
+  pub every-left : (P : A → Type 0) (xs ys : List A) → Every P (xs ++ ys) → Every P xs
+  every-left P [] ys h = tt
+  every-left P (x ∷ xs) ys h = (h .0, every-left P xs ys (h .1))
 
   pub every-right : (P : A → Type 0) (xs ys : List A) → Every P (xs ++ ys) → Every P ys
   every-right P [] ys h = h

@@ -167,7 +167,7 @@ pub record Wider (p q : Problem) : Type 0 where
   pub done : q .done ≡ p .done
 
 module _ (p q : Problem) (w : Wider p q) where
-  wider-choice : (i j : ℕ) → Choice p i j → Choice q i j
+  pub wider-choice : (i j : ℕ) → Choice p i j → Choice q i j
   wider-choice i j h =
       record { rises = h .rises; within = omega (arith, h .within, w .ends); admissible = w .fits i j (h .admissible) }
 

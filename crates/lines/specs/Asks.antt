@@ -50,10 +50,16 @@ pub record Squaring (x y : ℕ) : Type 0 where
   pub left : x ≤ 2 * farthest
   pub right : y ≤ 2 * farthest
 
--- and fifteen times that
+-- A line that ends at x, and would be best if it ended at y, has the length x + lopt - y. It is inside the measure.
+pub record InMeasure (l : Limits) (x y : ℕ) : Type 0 where
+  pub long : y + l .lmin ≤ x + l .lopt
+  pub short : x + l .lopt ≤ y + l .lmax
+
+-- the penalty of such a line
 pub record Weighing (l : Limits) (x y : ℕ) : Type 0 where
   pub weight : l .a ≤ 15
   pub square : Squaring x y
+  pub inside : InMeasure l x y
 
 -- a break that has a setting, and ends within what is measured
 pub record Priced (b : Break) : Type 0 where
@@ -64,6 +70,7 @@ pub record Curved (l : Limits) (goal : ℕ) (b : Break) : Type 0 where
   pub weight : l .a ≤ 15
   pub bounded : goal ≤ farthest
   pub break : Priced b
+  pub inside : InMeasure l (b .end) goal
 
 -- F is asked of an index that has a setting
 pub record Through (l : Limits) (goal : ℕ) (E B : List ℕ) (j : ℕ) : Type 0 where
@@ -71,12 +78,20 @@ pub record Through (l : Limits) (goal : ℕ) (E B : List ℕ) (j : ℕ) : Type 0
   pub same : length B ≡ length E
   pub curve : Curved l goal (breakIn E B j)
 
--- three breaks in the order of their ends, within lmax of each other
+-- b ends no later than n, and a line to it from the last start that has n inside the measure is inside too
+pub record Sided (l : Limits) (n b : Break) : Type 0 where
+  pub ranges : Ranges l
+  pub order : b .end ≤ n .end
+  pub near : n .end + l .lmin ≤ b .end + l .lmax
+  pub bounded : n .end ≤ farthest
+  pub break : Priced b
+
+-- three breaks in the order of their ends, which one start has inside the measure
 pub record Three (l : Limits) (j k n : Break) : Type 0 where
   pub ranges : Ranges l
   pub jk : j .end ≤ k .end
   pub kn : k .end ≤ n .end
-  pub near : n .end ≤ j .end + l .lmax
+  pub near : n .end + l .lmin ≤ j .end + l .lmax
   pub j-break : Priced j
   pub k-break : Priced k
   pub n-break : Priced n

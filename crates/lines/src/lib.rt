@@ -9,7 +9,7 @@ ghost use Rattle.laws.specs.Square.{sqd};
 ghost use Rattle.paper_theory.specs.Ranges.{Ranges};
 ghost use Rattle.paper.specs.Paragraph.{penalty as formula};
 ghost use Rattle.lines.specs.Held.{span, begins, breakIn, costAt, sideAt, edgeAt, chordOf, chordAt, bridgedAt};
-ghost use Rattle.lines.specs.Asks.{Span, Beginning, Placed, Indexed, Squaring, Weighing, Curved, Through, Three, Products};
+ghost use Rattle.lines.specs.Asks.{Span, Beginning, Placed, Indexed, Squaring, Weighing, Curved, Through, Sided, Three, Products};
 
 // Where a line from a start is inside the measure: it ends at near to far, at best at goal.
 pub struct Measure {
@@ -73,7 +73,7 @@ fn square_apart(x: u32, y: u32) -> u64
     (d * d) as u64
 }
 
-// A·(x - y)².
+// A·(x - y)², the penalty of a line that ends at x and would be best at y. It is asked of a line inside the measure only (W-204).
 fn weighed(l: Limits, x: u32, y: u32) -> u64
     requires { ⌜ Weighing l x y ⌝ }
     ensures { λ r. ⌜ (r ≡ l .a * sqd x y) × (r ≤ 2 ^ 56) ⌝ }
@@ -81,9 +81,9 @@ fn weighed(l: Limits, x: u32, y: u32) -> u64
     long(l.a) * square_apart(x, y)
 }
 
-// The penalty formula, A·(x - lopt)².
+// The penalty formula, A·(x - lopt)², inside the measure.
 pub fn penalty(l: Limits, x: u32) -> u64
-    requires { ⌜ (Ranges l) × (x ≤ 16773120) ⌝ }
+    requires { ⌜ (Ranges l) × (l .lmin ≤ x) × (x ≤ l .lmax) ⌝ }
     ensures { λ r. ⌜ r ≡ formula l x ⌝ }
 {
     weighed(l, x, l.lopt)
@@ -107,7 +107,7 @@ pub fn through(l: Limits, goal: u32, ends: &[u32], best: &[u64], j: u32) -> u64
 
 // A side of the first test of "bridged", for the neighbour n: best b + p(lmax - Line(b, n)), both ends moved on by lmax.
 fn side(l: Limits, n: Break, b: Break) -> u64
-    requires { ⌜ (Curved l (n .end) b) × (Ranges l) ⌝ }
+    requires { ⌜ Sided l n b ⌝ }
     ensures { λ r. ⌜ r ≡ sideAt l n b ⌝ }
 {
     b.best + weighed(l, b.end + l.lmax, n.end + l.lopt)

@@ -18,7 +18,7 @@ use Rattle.lines.specs.Held.{span}
 use Rattle.lines.specs.Asks.{Span}
 use Rattle.listing.specs.Listing.{holds}
 use Rattle.listing.specs.Asks.{LineAsks, LineIs}
-use Rattle.listing.specs.Settings.{line-high}
+use Rattle.listing.specs.Settings.{line-low, line-high}
 
 not-both : (b c : Bool) → (b ≡ false) ⊎ (c ≡ false) → (b && c) ≡ false
 not-both true c h = ⊎-elim (λ e. let z : _≡_ {A = ℕ} 0 1 = cc in absurd (omega arith)) (λ e. e) h
@@ -59,20 +59,19 @@ module _ {l : Limits} {ws S : List ℕ} {i j : ℕ} (a : LineAsks l ws S i j) wh
 
     -- every other is inside the measure, and costs its penalty
     module _ (paid : (leb x (l .lopt) ≡ false) ⊎ (j ≡ end ws → ⊥)) where
-      pub paid-inside : Ranges l × (x ≤ 16773120)
+      not-free : (eqb j (end ws) && leb x (l .lopt)) ≡ false
+      not-free = not-both (eqb j (end ws)) (leb x (l .lopt)) (⊎-elim inr (λ h. inl (ne-eqb j (end ws) h)) paid)
+
+      pub paid-inside : Ranges l × (l .lmin ≤ x) × (x ≤ l .lmax)
       unfolding holds
       paid-inside =
           let n = length-is in
           let r = ranges l (a .text .passed .limits) in
-          (r, omega (arith, line-high (a .segment), r .lmax-high))
+          let low = line-low (a .segment) (r .lopt-low) (rw n at not-free) in
+          (r, omega (arith, low), omega (arith, line-high (a .segment)))
 
       pub paid-is : {p : ℕ} → p ≡ penalty l x → LineIs l ws i j (record { length = y; cost = p })
       paid-is e = record {
         length = ey ∙ length-is;
-        cost = rw (
-          charge-is l ws i j,
-          ← length-is,
-          not-both (eqb j (end ws)) (leb x (l .lopt))
-              (⊎-elim inr (λ h. inl (ne-eqb j (end ws) h)) paid),
-        ) e;
+        cost = rw (charge-is l ws i j, ← length-is, not-free) e;
       }

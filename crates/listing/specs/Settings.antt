@@ -2,8 +2,10 @@
 -- Assumes nothing but what each law states.
 use Prim.Native.Nat.{ℕ, zero, suc, _+_, _*_, _^_, _≤_, _<_}
 use mathlib.Core.Path.{_≡_, refl}
+use mathlib.Core.Bool.{false, _&&_}
 use mathlib.Core.List.{List, [], _∷_}
 use native.Mathlib.Omega.{arith}
+use lib.Dec.{leb, eqb}
 use lib.ListN.{length, getD}
 use Rattle.laws.specs.Cost.{some}
 use Rattle.laws.specs.Setting.{Problem, Choice, Admissible}
@@ -14,7 +16,7 @@ use Rattle.paper.specs.Paragraph.{end, line, charge, lines, paragraph}
 use Rattle.paper.specs.Index.{item, index, boundaries}
 use Rattle.paper_theory.specs.Ranges.{ranges}
 use Rattle.paper_theory.specs.Scale.{length-holds}
-use Rattle.paper_theory.specs.Bound.{admissible-lmax, charge-bound, paragraph-bound, index-bound}
+use Rattle.paper_theory.specs.Bound.{admissible-lmin, admissible-lmax, charge-bound, paragraph-bound, index-bound}
 use Rattle.paper_theory.specs.Cheapest.{paragraph-cheapest, index-cheapest}
 use Rattle.queue_theory.specs.Paragraph.{at-most-2n}
 use Rattle.pointer_theory.specs.Count.{pointer-count}
@@ -31,6 +33,11 @@ module _ {l : Limits} {ws : List ℕ} {i j : ℕ} (p : Segment (AskedParagraph l
   pub line-high : line ws i j ≤ l .lmax
   unfolding problem paragraph settings lines
   line-high = admissible-lmax (lines l ws) i j (p .fits)
+
+  -- but for a short last line
+  pub line-low : l .lmin ≤ l .lopt → (eqb j (end ws) && leb (line ws i j) (l .lopt)) ≡ false → l .lmin ≤ line ws i j
+  unfolding problem paragraph settings lines
+  line-low = admissible-lmin (lines l ws) i j (p .fits)
 
 -- ---- a start's row has at most 20 bytes
 -- a number that is listed: one of a text, one of its moves

@@ -6,11 +6,13 @@ use mathlib.Core.List.{List, [], _∷_, map}
 use lib.ListN.{replicate}
 use Rattle.laws.specs.Setting.{total}
 use Rattle.paper.specs.declared.Refusal.the-variants.{Empty, Many, Limits as BadLimits, Length, Room}
-use Rattle.paper.specs.Paragraph.{paragraph}
+use Rattle.laws.specs.Square.{sqd}
+use Rattle.paper.specs.declared.Penalty.the-variants.{Of, Outside, Refused}
+use Rattle.paper.specs.Paragraph.{paragraph, penalty}
 use Rattle.paper.specs.Allowed.{limitsOf as limits, pageLimitsOf as pages, limitsHold, pageLimitsHold}
 use Rattle.paper.specs.declared.Checked.{Checked}
 use Rattle.paper.specs.declared.Checked.the-variants.{Accept, Refuse}
-use Rattle.paper.specs.Told.{checked}
+use Rattle.paper.specs.Told.{checked, penaltyAlone}
 use Rattle.paper.specs.Moves.{code}
 use Rattle.paper.specs.Computes.{stripsCompute, paragraphComputes, indexComputes}
 use Rattle.paper.specs.QueueRules.{queueMoves}
@@ -49,6 +51,17 @@ pub room-edges : map (λ (ws : List ℕ). checked true ws (2 ∷ 1 ∷ 0 ∷ [])
     ≡ Refuse (Length 1) ∷ Refuse (Room 2) ∷ []
 unfolding stripsCompute
 room-edges = refl
+
+-- ---- the penalty alone, at the edges of the measure and of what may be asked; LIMITS comes before LENGTH, and LENGTH before "outside"
+pub penalty-edges : map (penaltyAlone (limits 6 8 10 15)) (5 ∷ 6 ∷ 8 ∷ 10 ∷ 11 ∷ 0 ∷ 16773120 ∷ 16773121 ∷ [])
+    ≡ Outside ∷ Of 60 ∷ Of 0 ∷ Of 60 ∷ Outside ∷ Outside ∷ Outside ∷ Refused (Length 0) ∷ []
+unfolding penaltyAlone limitsHold penalty sqd
+penalty-edges = refl
+
+pub penalty-order : map (penaltyAlone (limits 6 8 6 1)) (5 ∷ 6 ∷ 16773121 ∷ [])
+    ≡ Refused BadLimits ∷ Refused BadLimits ∷ Refused BadLimits ∷ []
+unfolding penaltyAlone limitsHold
+penalty-order = refl
 
 -- ---- the worked moves: "P1's moves are 41 43 33 25 35 28 17; G1's are 39 37 30."
 pub moves-P1 : map code (queueMoves (limits 1 6 6 1) (3 ∷ 2 ∷ 2 ∷ 5 ∷ [])) ≡ 41 ∷ 43 ∷ 33 ∷ 25 ∷ 35 ∷ 28 ∷ 17 ∷ []

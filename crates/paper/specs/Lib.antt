@@ -6,6 +6,7 @@ pub mod Allowed
 pub mod Told
 pub mod Moves
 pub mod QueueRules
+pub mod Applied
 pub mod PointerRules
 pub mod Strips
 pub mod Computes

@@ -23,12 +23,14 @@ pub record Lines : Type 0 where
   pub penalty : ℕ → ℕ
   pub break : ℕ → ℕ
 
+-- a length of at least low and at most high: inside the measure where these are lmin and lmax
+abbrev pub inside : ℕ → ℕ → ℕ → Bool
+inside low high x = leb low x && leb x high
+
 -- "Admissible: every line but the last has lmin ≤ length ≤ lmax; the last has length ≤ lmax." (and at least its least length)
 unfoldable pub admissible : Lines → ℕ → ℕ → Bool
 admissible p i j =
-    if (eqb j (p .end))
-    (leb (p .lastmin) (p .line i j) && leb (p .line i j) (p .lmax))
-    (leb (p .lmin) (p .line i j) && leb (p .line i j) (p .lmax))
+    if (eqb j (p .end)) (inside (p .lastmin) (p .lmax) (p .line i j)) (inside (p .lmin) (p .lmax) (p .line i j))
 
 -- "A last line of length ≤ lopt costs 0." Every other costs its penalty, and what its break is charged.
 unfoldable pub charge : Lines → ℕ → ℕ → ℕ

@@ -79,10 +79,11 @@ pub record Standing : Type 0 where
   pub candidate : ℕ
 
 -- "if it is above lmax, or the candidate has no setting, Pass it. Otherwise" pop and add
+abbrev pub passes : Text → ℕ → ℕ → Bool
+passes t i j = ltb (t .lines .lmax) (t .lines .line i j) || not (has? (t .best j))
+
 unfoldable pub consider : Text → ℕ → ℕ → List ℕ → Taken (List ℕ)
-consider t i j q =
-    elim (ltb (t .lines .lmax) (t .lines .line i j) || not (has? (t .best j)))
-    [ true ↦ moved (move Pass j) (still q) | false ↦ add t i j q ]
+consider t i j q = elim (passes t i j) [ true ↦ moved (move Pass j) (still q) | false ↦ add t i j q ]
 
 -- "2. While Line(i, candidate) ≥ lmin: [..] The candidate then falls by one."
 unfoldable pub candidates : Text → ℕ → ℕ → List ℕ → Taken Standing

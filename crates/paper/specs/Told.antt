@@ -1,5 +1,5 @@
 -- 01, "What a caller is told".
-use Prim.Native.Nat.{ℕ, suc}
+use Prim.Native.Nat.{ℕ, suc, _-_, _^_}
 use mathlib.Core.Bool.{Bool, true, false, not}
 use mathlib.Core.List.{List, [], _∷_, _++_}
 use lib.Dec.{leb, ltb, eqb}
@@ -13,8 +13,9 @@ use Rattle.paper.specs.declared.Checked.the-variants.{Accept, Refuse}
 use Rattle.paper.specs.declared.Answer.{Answer}
 use Rattle.paper.specs.declared.Answer.the-variants.{Set, None, Refused}
 use Rattle.paper.specs.declared.Penalty.{Penalty}
-use Rattle.paper.specs.declared.Penalty.the-variants.{Of, Refused as PenaltyRefused}
+use Rattle.paper.specs.declared.Penalty.the-variants.{Of, Outside, Refused as PenaltyRefused}
 use Rattle.paper.specs.Allowed.{mostWords, lengthHolds, limitsHold, mostAlone}
+use Rattle.paper.specs.Lines.{inside}
 use Rattle.paper.specs.Paragraph.{penalty}
 
 -- ---- what each case of an answer tells: 01's number (0 where a setting is given), place, total, lines and moves
@@ -43,9 +44,15 @@ told (Set total lines moves) = record { number = 0; place = 0; total = total; li
 told (None moves) = record { number = 6; place = 0; total = 0; lines = 0; moves = moves }
 told (Refused r) = toldRefusal r
 
--- "Either refusal returns zero for the penalty."
+-- a total and nothing else
+abbrev pub toldTotal : ℕ → Told
+toldTotal total = record { number = 0; place = 0; total = total; lines = 0; moves = 0 }
+
+-- "Either refusal returns zero for the penalty." "outside" (W-204) is no refusal: it is told as 2^64 - 1, 01's "no setting", which no penalty
+-- reaches.
 unfoldable pub toldPenalty : Penalty → Told
-toldPenalty (Of p) = record { number = 0; place = 0; total = p; lines = 0; moves = 0 }
+toldPenalty (Of p) = toldTotal p
+toldPenalty Outside = toldTotal (2 ^ 64 - 1)
 toldPenalty (PenaltyRefused r) = toldRefusal r
 
 -- ---- when each is given
@@ -141,10 +148,11 @@ setterChecks hold ws has needs = record {
 unfoldable pub checked : Bool → List ℕ → List ℕ → List ℕ → Checked
 checked hold ws has needs = given (inOrder itself (setterChecks hold ws has needs))
 
--- "The penalty formula can also be asked for alone, from paragraph limits and one length from 0 to 16,773,120. It answers
--- A·(x - lopt)², inside the measure or not. Bad limits are LIMITS; then a larger length is LENGTH, place 0."
+-- "The penalty formula can also be asked for alone, from paragraph limits and one length from 0 to 16,773,120. [..] Bad limits are LIMITS;
+-- then a larger length is LENGTH, place 0." W-204: "Outside lmin..lmax it gets a number that looks cheap; there the function shall answer
+-- "outside"."
 unfoldable pub penaltyAlone : Limits → ℕ → Penalty
 penaltyAlone l x =
     if (not (limitsHold l)) (PenaltyRefused BadLimits)
     (if (ltb mostAlone x) (PenaltyRefused (Length 0))
-    (Of (penalty l x)))
+    (if (inside (l .lmin) (l .lmax) x) (Of (penalty l x)) Outside))

@@ -62,8 +62,9 @@ pub enum Answer {
     Refused(Refusal),
 }
 
-// The answer to one who asks for the penalty formula alone.
+// The answer to one who asks for the penalty of one line alone.
 pub enum Penalty {
     Of(u64),
+    Outside,
     Refused(Refusal),
 }

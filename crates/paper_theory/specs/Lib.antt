@@ -1,7 +1,9 @@
--- What follows from the definitions of document 01: ranges as orders, lines on a scale, demand 2, and the bounds of totals.
+-- What follows from the definitions of document 01: ranges as orders, lines on a scale, demand 2, the bounds of totals, the penalty alone.
 pub mod Ranges
 pub mod Entries
 pub mod Scale
 pub mod Cheapest
 pub mod Bound
+pub mod Formula
+pub mod Alone
 pub mod Marked

@@ -7,6 +7,7 @@ pub mod Count
 pub mod Ready
 pub mod Curves
 pub mod Sound
+pub mod Applied
 pub mod Agree
 pub mod Front
 pub mod Paragraph

@@ -8,18 +8,26 @@ use native.Mathlib.Omega.{arith}
 use lib.ListN.{length}
 use borrow.Author.Tests.{le-leb, lt-leb}
 use Rattle.laws.specs.Cost.{Cost, none, some, before}
+use Rattle.laws.specs.Members.{Every, every-map}
+use Rattle.laws.specs.Number.{held}
 use Rattle.paper.specs.declared.Limits.{Limits}
-use Rattle.paper.specs.Allowed.{ParagraphPassed}
+use Rattle.paper.specs.declared.Penalty.the-variants.{Of}
+use Rattle.paper.specs.Allowed.{limitsHold, ParagraphPassed}
 use Rattle.paper.specs.Lines as Lines
 use Rattle.paper.specs.Lines.{free}
 use Rattle.paper.specs.Paragraph.{line, end, penalty, lines, best, chosenNext}
 use Rattle.paper.specs.QueueRules.{textOf, frontNext, takenBest, takenNext, queueAt, queueMoves, afterStarts}
+use Rattle.paper.specs.Applied.{applied}
+use Rattle.paper.specs.Told.{penaltyAlone}
+use Rattle.paper_theory.specs.Alone.{alone-inside}
+use Rattle.paper_theory.specs.Formula.{byFormula, formula-best, formula-next}
 use Rattle.paper_theory.specs.Ranges.{Ranges, ranges}
 use Rattle.paper_theory.specs.Scale.{upTo, upTo-le, upTo-rise, line-scale}
 use Rattle.paper_theory.specs.Cheapest.{free-best}
 use Rattle.queue_theory.specs.Scales.{Scaled, Bested}
-use Rattle.queue_theory.specs.Ready.{moves-so-far}
-use Rattle.queue_theory.specs.Agree.{textWith, formula-same}
+use Rattle.queue_theory.specs.Ready.{moves-so-far, stood-before}
+use Rattle.queue_theory.specs.Applied.{start-inside}
+use Rattle.queue_theory.specs.Agree.{formula-same}
 use Rattle.queue_theory.specs.Front as Front
 
 nothing-joined : (c : Cost) → c ≡ before _+_ 0 c
@@ -63,13 +71,38 @@ module _ (l : Limits) (ws : List ℕ) (passed : ParagraphPassed l ws) where
   unfolding queueMoves
   at-most-2n = moves-so-far scaled (length ws) size (length ws) (omega arith)
 
-  -- The formula is only ever applied to lengths in lmin..lmax: another one that agrees there takes the same moves and leaves the same
-  -- queue.
-  pub inside-the-measure : (formula : ℕ → ℕ) → ((x : ℕ) → l .lmin ≤ x → x ≤ l .lmax → formula x ≡ penalty l x) → (d : ℕ) → d ≤ length ws →
-      afterStarts (textWith (textOf l ws) (end ws) formula (line ws) (λ j. 0) (line ws) (best l ws)) (length ws) d
-      ≡ afterStarts (textOf l ws) (length ws) d
-  unfolding textOf lines
-  inside-the-measure formula same d h = formula-same scaled (length ws) size formula same d h
+  -- ---- W-204. At every start, every length to which the queue rules apply the formula is inside the measure.
+  module _ (i : ℕ) (start : 1 ≤ i) (inside : i ≤ length ws) where
+    pub inside-the-measure : Every (λ (x : ℕ). (l .lmin ≤ x) × (x ≤ l .lmax)) (applied l ws i)
+    unfolding applied textOf lines
+    inside-the-measure =
+        start-inside scaled start (afterStarts (textOf l ws) (length ws) (length ws - i) .stands) (stood-before scaled (length ws) size i inside)
+
+    -- "The breaker never meets "outside" where the queue rules apply the formula": asked for alone, each is given its number.
+    pub never-outside : Every (λ (x : ℕ). penaltyAlone l x ≡ Of (penalty l x)) (applied l ws i)
+    never-outside =
+        every-map (λ (x : ℕ). (l .lmin ≤ x) × (x ≤ l .lmax)) (λ (x : ℕ). penaltyAlone l x ≡ Of (penalty l x))
+        (λ x h. alone-inside l x (held (limitsHold l) (passed .limits)) (h .0) (h .1)) (applied l ws i) inside-the-measure
+
+  -- So any formula that agrees inside the measure gives the same bests, the same nexts, and with these bests the same moves and queues.
+  module _ (formula : ℕ → ℕ) (same : (x : ℕ) → l .lmin ≤ x → x ≤ l .lmax → formula x ≡ penalty l x) where
+    pub same-bests : (i : ℕ) → i ≤ end ws → Lines.best (byFormula formula (lines l ws)) i ≡ best l ws i
+    unfolding best lines
+    same-bests = formula-best (lines l ws) (r .lopt-low) formula same
+
+    pub same-nexts : (i : ℕ) → i ≤ length ws → Lines.chosenNext (byFormula formula (lines l ws)) i ≡ chosenNext l ws i
+    unfolding chosenNext lines
+    same-nexts i h = formula-next (lines l ws) (r .lopt-low) formula same i (omega arith)
+
+    pub same-moves : (d : ℕ) → d ≤ length ws →
+        afterStarts (record {
+          lines = byFormula formula (lines l ws);
+          a = l .a;
+          apart = line ws;
+          best = Lines.best (byFormula formula (lines l ws));
+        }) (length ws) d ≡ afterStarts (textOf l ws) (length ws) d
+    unfolding textOf lines
+    same-moves = formula-same scaled (length ws) size formula (λ x h. same x (h .0) (h .1)) (λ k low high. same-bests k high)
 
   module _ (i : ℕ) (start : 1 ≤ i) (inside : i ≤ length ws) where
     -- what stands after start i, from front to rear

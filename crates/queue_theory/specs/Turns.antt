@@ -11,7 +11,7 @@ use Rattle.laws.specs.Number.{split}
 use Rattle.laws.specs.Cost.{Cost, none, some, Has, has?}
 use Rattle.paper.specs.declared.Kind.the-variants.{Pass, Drop, Pop}
 use Rattle.paper.specs.Moves.{Taken, move, still, moved, joined}
-use Rattle.paper.specs.QueueRules.{Text, F, bridged, dropLong, popWorse, popBridged, add, consider, candidates, dropWorse}
+use Rattle.paper.specs.QueueRules.{Text, F, bridged, dropLong, popWorse, popBridged, add, passes, consider, candidates, dropWorse}
 
 pub has-true : (c : Cost) → Has c → has? c ≡ true
 has-true none h = absurd h
@@ -97,16 +97,22 @@ module _ (t : Text) (j : ℕ) where
   unfolding popBridged
   popBridged-stop k l q h = rw (h, popBridged)
 
+-- whether a candidate is passed: it is not where its line is within lmax and it has a setting
+pub passes-gives : (t : Text) (i j : ℕ) (P : Bool → Type 0) → ((t .lines .line i j ≤ t .lines .lmax → ¬ Has (t .best j)) → P true) →
+    (t .lines .line i j ≤ t .lines .lmax → Has (t .best j) → P false) → P (passes t i j)
+passes-gives t i j P passed added =
+    ⊎-elim
+    (λ h. rw (le-ltb (t .lines .lmax) (t .lines .line i j) h) (by-setting h (t .best j) refl))
+    (λ h. rw (lt-ltb (t .lines .lmax) (t .lines .line i j) h) (passed (λ g. absurd (omega arith))))
+    (split (t .lines .line i j) (t .lines .lmax))
+  where
+    by-setting : t .lines .line i j ≤ t .lines .lmax → (c : Cost) → t .best j ≡ c → P (not (has? (t .best j)))
+    by-setting h none e = let g : ¬ Has (t .best j) = λ g. rw e at g in rw (none-false (t .best j) g) (passed (λ k. g))
+    by-setting h (some v) e = let g : Has (t .best j) = rw e tt in rw (has-true (t .best j) g) (added h g)
+
 -- what a candidate gives: it is added where its line is within lmax and it has a setting, and otherwise passed
 pub consider-gives : (t : Text) (i j : ℕ) (q : List ℕ) (P : Taken (List ℕ) → Type 0) →
     ((t .lines .line i j ≤ t .lines .lmax → ¬ Has (t .best j)) → P (moved (move Pass j) (still q))) →
     (t .lines .line i j ≤ t .lines .lmax → Has (t .best j) → P (add t i j q)) → P (consider t i j q)
-consider-gives t i j q P passed added =
-    ⊎-elim
-    (λ h. by-setting h (t .best j) refl)
-    (λ h. rw (consider-long t i j q h) (passed (λ g. absurd (omega arith))))
-    (split (t .lines .line i j) (t .lines .lmax))
-  where
-    by-setting : t .lines .line i j ≤ t .lines .lmax → (c : Cost) → t .best j ≡ c → P (consider t i j q)
-    by-setting h none e = let g : ¬ Has (t .best j) = λ g. rw e at g in rw (consider-none t i j q g) (passed (λ k. g))
-    by-setting h (some v) e = let g : Has (t .best j) = rw e tt in rw (consider-add t i j q h g) (added h g)
+unfolding consider
+consider-gives t i j q P = passes-gives t i j (λ (b : Bool). P (elim b [ true ↦ moved (move Pass j) (still q) | false ↦ add t i j q ]))

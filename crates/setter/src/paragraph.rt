@@ -1,4 +1,4 @@
-// The paragraph, and its penalty formula alone.
+// The paragraph, and the penalty of one line alone.
 use breaks::set;
 use lines::penalty;
 use paper::Answer;
@@ -46,7 +46,7 @@ pub fn set_paragraph(
     set(l, lengths, sums, best, next, queue, moves, breaks)
 }
 
-// The penalty formula for one length, inside the measure or not.
+// The penalty of a line of one length, asked for alone: outside the measure there is none (W-204).
 pub fn penalty_alone(l: Limits, length: u32) -> Penalty
     ensures { λ r. ⌜ PenaltyPromise (penaltyAlone l length) r ⌝ }
 {
@@ -55,6 +55,9 @@ pub fn penalty_alone(l: Limits, length: u32) -> Penalty
     }
     if 16773120 < length {
         return Penalty::Refused(Refusal::Length(0));
+    }
+    if length < l.lmin || l.lmax < length {
+        return Penalty::Outside;
     }
     Penalty::Of(penalty(l, length))
 }

@@ -10,12 +10,15 @@ use records::record_at;
 ghost use Prim.Native.Nat.{_≤_};
 ghost use lib.ListN.{length};
 
-// Prints the strips of what a job asks for.
+// Prints the strips of what a job asks for, and of a paragraph the penalties.
 fn trace_asked(asked: Asked, lengths: &[u32])
     requires { ⌜ length (now lengths) ≤ 12 ⌝ }
 {
     match asked {
-        Asked::Paragraph(l) => paragraph::trace(l, lengths),
+        Asked::Paragraph(l) => {
+            paragraph::trace(l, lengths);
+            paragraph::penalties(l, lengths);
+        }
         Asked::Index(l) => index::trace(l, lengths),
     }
 }

@@ -1,9 +1,19 @@
-// A paragraph, with all its strips.
+// A paragraph, with all its strips, and the penalties of lines as long as its words.
 use crate::print;
+use capi::hathurmo_penalty;
 use capi::hathurmo_set_paragraph;
 use paper::Limits;
 ghost use Prim.Native.Nat.{_≤_};
 ghost use lib.ListN.{length};
+
+// Prints what is told of the penalty of a line of each length, asked for alone.
+pub fn penalties(l: Limits, lengths: &[u32]) {
+    let mut k = 0;
+    while k < lengths.len() {
+        print::told(hathurmo_penalty(l, lengths[k]));
+        k += 1;
+    }
+}
 
 // Sets a paragraph of up to 12 words in strips whose entries are all 7, and prints of each 2 entries more than 01 asks for.
 pub fn trace(l: Limits, lengths: &[u32])

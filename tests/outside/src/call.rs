@@ -123,6 +123,13 @@ pub fn penalty(limits: Limits, length: u32) -> Result<Told, String> {
     // SAFETY: numbers in, numbers out.
     let told = unsafe { raw::hathurmo_penalty(limits, length) };
     equal("told", told, paper::penalty_alone(limits, length))?;
+    let said = match told.number {
+        3 => Err(hathurmo::Refusal::Limits),
+        4 => Err(hathurmo::Refusal::Length { word: 0 }),
+        _ if told.total == raw::OUTSIDE => Ok(hathurmo::Penalty::Outside),
+        _ => Ok(hathurmo::Penalty::Of(told.total)),
+    };
+    equal("the wrapper", hathurmo::penalty(limits, length), said)?;
     Ok(told)
 }
 

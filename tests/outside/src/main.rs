@@ -180,7 +180,10 @@ fn penalties(r: &mut Random, tally: &mut Tally) -> Done {
         limits = cases::damaged_limits(r, limits);
     }
     let any = r.bits() as u32;
-    let length = r.pick(&[0, 1, limits.lopt, limits.lmax, 4095, any % 16_773_121, 16_773_120, 16_773_121, u32::MAX, any]);
+    let (low, high) = (limits.lmin, limits.lmax);
+    let edges = [low.wrapping_sub(1), low, low.wrapping_add(1), limits.lopt, high.wrapping_sub(1), high, high.wrapping_add(1)];
+    let far = [0, 1, 4095, any % 4097, any % 16_773_121, 16_773_120, 16_773_121, u32::MAX, any];
+    let length = if r.once_in(2) { r.pick(&edges) } else { r.pick(&far) };
     let told = call::penalty(limits, length).map_err(|what| format!("{what}\n  penalty {limits:?}, length {length}"))?;
     tally.note(told.number, &[]);
     Ok(())

@@ -31,7 +31,9 @@ pub fn sums(lengths: &[u32]) -> Vec<u32> {
     all
 }
 
+/// The penalty formula. W-204: neither the plain way nor a queue rule ever applies it to a line outside the measure.
 fn penalty(l: Limits, x: u32) -> u64 {
+    assert!((l.lmin..=l.lmax).contains(&x), "a line of {x} is outside {l:?}");
     u64::from(l.a) * u64::from(x.abs_diff(l.lopt)).pow(2)
 }
 
@@ -357,7 +359,8 @@ pub fn penalty_alone(l: Limits, length: u32) -> Told {
     if length > 16_773_120 {
         return told(4, 0);
     }
-    Told { total: penalty(l, length), ..told(0, 0) }
+    let total = if (l.lmin..=l.lmax).contains(&length) { penalty(l, length) } else { NO_SETTING };
+    Told { total, ..told(0, 0) }
 }
 
 /// A job's count, its limits and its lengths, or the refusal's number and place.

@@ -10,7 +10,11 @@ tell-penalty-spec =
     tie.close
     (tie.spec
     (λ c. search needs)
+    (λ c κs. search needs)
     (λ c. search needs)
     (λ c κs. search needs)
-    (λ c. rw (c .before .p .given .1))
+    (λ c. search needs)
+    (λ c κs. search needs)
+    (λ c. rw (c .before .before .p .given .1) (c .tell-total .ensures))
+    (λ c. rw (c .before .enum-told .given .1) (c .tell-total2 .ensures))
     (λ c. rw (c .before .before .p2 .given .1) (c .tell-refusal .ensures)))
