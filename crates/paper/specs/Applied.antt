@@ -1,6 +1,6 @@
 -- 02, W-204: "The breaker never meets "outside" where the queue rules apply the formula". Here are the lengths to which they apply it at a
--- start, in the rules' own order; that each is inside the measure is queue_theory's `inside-the-measure`, and the rest of the sentence its
--- `never-outside`.
+-- start. The sentence itself is queue_theory's `never-outside`; that no length is missing here is its `atStart-same` and `taken-same`: a
+-- formula that agrees on these lengths alone takes the same moves, best and next.
 use Prim.Native.Nat.{ℕ, zero, suc, _-_}
 use mathlib.Core.Bool.{true, false}
 use mathlib.Core.List.{List, [], _∷_, _++_, reverse}

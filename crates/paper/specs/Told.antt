@@ -48,8 +48,8 @@ told (Refused r) = toldRefusal r
 abbrev pub toldTotal : ℕ → Told
 toldTotal total = record { number = 0; place = 0; total = total; lines = 0; moves = 0 }
 
--- "Either refusal returns zero for the penalty." "outside" (W-204) is no refusal: it is told as 2^64 - 1, 01's "no setting", which no penalty
--- reaches.
+-- "Either refusal returns zero for the penalty." "outside" (W-204) is no refusal: it is told as 2^64 - 1, 01's "no setting", which no
+-- penalty reaches.
 unfoldable pub toldPenalty : Penalty → Told
 toldPenalty (Of p) = toldTotal p
 toldPenalty Outside = toldTotal (2 ^ 64 - 1)

@@ -1,5 +1,5 @@
--- 02, W-204: every length to which the queue rules apply the penalty formula at a start is inside the measure. Assumes nothing but what each
--- law states.
+-- 02, W-204: every length to which the queue rules apply the penalty formula at a start is inside the measure. Assumes nothing but what
+-- each law states.
 use Prim.Native.Nat.{ℕ, zero, suc, _+_, _-_, _≤_, _<_}
 use mathlib.Core.Bool.{Bool, true, false}
 use mathlib.Core.List.{List, [], _∷_, _++_, reverse}

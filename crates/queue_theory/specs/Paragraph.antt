@@ -76,7 +76,8 @@ module _ (l : Limits) (ws : List ℕ) (passed : ParagraphPassed l ws) where
     pub inside-the-measure : Every (λ (x : ℕ). (l .lmin ≤ x) × (x ≤ l .lmax)) (applied l ws i)
     unfolding applied textOf lines
     inside-the-measure =
-        start-inside scaled start (afterStarts (textOf l ws) (length ws) (length ws - i) .stands) (stood-before scaled (length ws) size i inside)
+        start-inside scaled start (afterStarts (textOf l ws) (length ws) (length ws - i) .stands)
+        (stood-before scaled (length ws) size i inside)
 
     -- "The breaker never meets "outside" where the queue rules apply the formula": asked for alone, each is given its number.
     pub never-outside : Every (λ (x : ℕ). penaltyAlone l x ≡ Of (penalty l x)) (applied l ws i)
