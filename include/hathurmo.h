@@ -62,7 +62,7 @@ typedef struct {
 typedef struct {
     uint32_t number;
     uint64_t place;
-    uint64_t total; /* the least penalty, or the least key total */
+    uint64_t total; /* the least penalty, the least key total, or the penalty of one line */
     uint64_t lines; /* breaks or boundaries written to the answer strip */
     uint64_t moves; /* moves written to the moves strip, at most 2n */
 } HathurmoTold;
@@ -102,8 +102,8 @@ HathurmoTold hathurmo_set_index(HathurmoPageLimits limits, const uint32_t *lengt
                                 uint32_t *right, size_t right_len, uint32_t *moves, size_t moves_len,
                                 uint32_t *boundaries, size_t boundaries_len);
 
-/* The penalty a * (length - lopt)^2 of one line as the total. A line shorter than lmin or longer than lmax has none: the number is 0
- * and the total HATHURMO_OUTSIDE. Lines and moves are 0. That a last line of at most lopt costs nothing is not looked at here.
+/* The penalty a * (length - lopt)^2 of one line as the total. A line shorter than lmin or longer than lmax has none: number and
+ * place are 0 and the total is HATHURMO_OUTSIDE. Lines and moves are 0. That a last line of at most lopt costs nothing is not looked at here.
  * Refusals: LIMITS; then LENGTH, place 0, where the length is above 16,773,120. */
 HathurmoTold hathurmo_penalty(HathurmoLimits limits, uint32_t length);
 

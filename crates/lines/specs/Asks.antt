@@ -51,15 +51,15 @@ pub record Squaring (x y : ℕ) : Type 0 where
   pub right : y ≤ 2 * farthest
 
 -- A line that ends at x, and would be best if it ended at y, has the length x + lopt - y. It is inside the measure.
-pub record InMeasure (l : Limits) (x y : ℕ) : Type 0 where
-  pub long : y + l .lmin ≤ x + l .lopt
-  pub short : x + l .lopt ≤ y + l .lmax
+pub record EndsInside (l : Limits) (x y : ℕ) : Type 0 where
+  pub low : y + l .lmin ≤ x + l .lopt
+  pub high : x + l .lopt ≤ y + l .lmax
 
 -- the penalty of such a line
 pub record Weighing (l : Limits) (x y : ℕ) : Type 0 where
   pub weight : l .a ≤ 15
   pub square : Squaring x y
-  pub inside : InMeasure l x y
+  pub inside : EndsInside l x y
 
 -- a break that has a setting, and ends within what is measured
 pub record Priced (b : Break) : Type 0 where
@@ -70,7 +70,7 @@ pub record Curved (l : Limits) (goal : ℕ) (b : Break) : Type 0 where
   pub weight : l .a ≤ 15
   pub bounded : goal ≤ farthest
   pub break : Priced b
-  pub inside : InMeasure l (b .end) goal
+  pub inside : EndsInside l (b .end) goal
 
 -- F is asked of an index that has a setting
 pub record Through (l : Limits) (goal : ℕ) (E B : List ℕ) (j : ℕ) : Type 0 where

@@ -7,6 +7,7 @@ ghost use Prim.Native.Nat.{_-_, _*_, _^_, _≤_, _<_};
 ghost use lib.ListN.{length, getD};
 ghost use Rattle.laws.specs.Square.{sqd};
 ghost use Rattle.paper_theory.specs.Ranges.{Ranges};
+ghost use Rattle.paper.specs.Lines.{Inside};
 ghost use Rattle.paper.specs.Paragraph.{penalty as formula};
 ghost use Rattle.lines.specs.Held.{span, begins, breakIn, costAt, sideAt, edgeAt, chordOf, chordAt, bridgedAt};
 ghost use Rattle.lines.specs.Asks.{Span, Beginning, Placed, Indexed, Squaring, Weighing, Curved, Through, Sided, Three, Products};
@@ -83,7 +84,7 @@ fn weighed(l: Limits, x: u32, y: u32) -> u64
 
 // The penalty formula, A·(x - lopt)², inside the measure.
 pub fn penalty(l: Limits, x: u32) -> u64
-    requires { ⌜ (Ranges l) × (l .lmin ≤ x) × (x ≤ l .lmax) ⌝ }
+    requires { ⌜ (Ranges l) × (Inside (l .lmin) (l .lmax) x) ⌝ }
     ensures { λ r. ⌜ r ≡ formula l x ⌝ }
 {
     weighed(l, x, l.lopt)

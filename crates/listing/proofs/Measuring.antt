@@ -9,6 +9,7 @@ use borrow.Author.Tests.{eq-eqb, ne-eqb}
 use lib.Dec.{leb, eqb}
 use lib.ListN.{length, getD}
 use Rattle.paper.specs.declared.Limits.{Limits}
+use Rattle.paper.specs.Lines.{Inside}
 use Rattle.paper.specs.Paragraph.{end, line, penalty}
 use Rattle.paper_theory.specs.Bound.{charge-is}
 use Rattle.paper_theory.specs.Ranges.{Ranges, ranges}
@@ -62,13 +63,13 @@ module _ {l : Limits} {ws S : List ℕ} {i j : ℕ} (a : LineAsks l ws S i j) wh
       not-free : (eqb j (end ws) && leb x (l .lopt)) ≡ false
       not-free = not-both (eqb j (end ws)) (leb x (l .lopt)) (⊎-elim inr (λ h. inl (ne-eqb j (end ws) h)) paid)
 
-      pub paid-inside : Ranges l × (l .lmin ≤ x) × (x ≤ l .lmax)
+      pub paid-inside : Ranges l × Inside (l .lmin) (l .lmax) x
       unfolding holds
       paid-inside =
           let n = length-is in
           let r = ranges l (a .text .passed .limits) in
           let low = line-low (a .segment) (r .lopt-low) (rw n at not-free) in
-          (r, omega (arith, low), omega (arith, line-high (a .segment)))
+          (r, (omega (arith, low), omega (arith, line-high (a .segment))))
 
       pub paid-is : {p : ℕ} → p ≡ penalty l x → LineIs l ws i j (record { length = y; cost = p })
       paid-is e = record {

@@ -1,6 +1,6 @@
 -- 02, W-204: "The breaker never meets "outside" where the queue rules apply the formula". Here are the lengths to which they apply it at a
--- start. The sentence itself is queue_theory's `never-outside`; that no length is missing here is its `atStart-same` and `taken-same`: a
--- formula that agrees on these lengths alone takes the same moves, best and next.
+-- start, and no others but that of a front that is no chooser. The sentence itself is queue_theory's `never-outside`; that no length is
+-- missing here is its `atStart-same` and `taken-same`: a formula that agrees on these lengths alone takes the same moves, best and next.
 use Prim.Native.Nat.{ℕ, zero, suc, _-_}
 use mathlib.Core.Bool.{true, false}
 use mathlib.Core.List.{List, [], _∷_, _++_, reverse}
@@ -16,7 +16,8 @@ popWorseApplied t i j [] = []
 popWorseApplied t i j (k ∷ q) =
     t .lines .line i j ∷ t .lines .line i k ∷ elim (leb (F t i j) (F t i k)) [ true ↦ popWorseApplied t i j q | false ↦ [] ]
 
--- "Pop the rear while two or more stand and the rear is bridged", on the queue from rear to front: both of "bridged"
+-- "Pop the rear while two or more stand and the rear is bridged", on the queue from rear to front: both sides of the first
+-- test of "bridged"
 unfoldable pub popBridgedApplied : Text → ℕ → List ℕ → List ℕ
 popBridgedApplied t j [] = []
 popBridgedApplied t j (k ∷ []) = []
@@ -24,10 +25,11 @@ popBridgedApplied t j (k ∷ l ∷ q) =
     (t .lines .lmax - t .apart k l) ∷ (t .lines .lmax - t .apart j l)
     ∷ elim (bridged t j k l) [ true ↦ popBridgedApplied t j (l ∷ q) | false ↦ [] ]
 
+-- both pops
 abbrev pub addApplied : Text → ℕ → ℕ → List ℕ → List ℕ
 addApplied t i j q = popWorseApplied t i j (reverse q) ++ popBridgedApplied t j (popWorse t i j (reverse q) .stands)
 
--- a candidate that is passed costs nothing
+-- "Pass it. Otherwise" pop and add
 unfoldable pub considerApplied : Text → ℕ → ℕ → List ℕ → List ℕ
 considerApplied t i j q = elim (passes t i j) [ true ↦ [] | false ↦ addApplied t i j q ]
 
@@ -47,7 +49,7 @@ dropWorseApplied t i (j ∷ []) = []
 dropWorseApplied t i (j ∷ k ∷ q) =
     t .lines .line i k ∷ t .lines .line i j ∷ elim (leb (F t i k) (F t i j)) [ true ↦ dropWorseApplied t i (k ∷ q) | false ↦ [] ]
 
--- "otherwise the front is the chooser": F of the front
+-- "otherwise the front is the chooser": F of the front, listed also where n+1 is taken
 unfoldable pub frontApplied : Text → ℕ → List ℕ → List ℕ
 frontApplied t i [] = []
 frontApplied t i (j ∷ q) = t .lines .line i j ∷ []

@@ -1,12 +1,12 @@
--- 01's edges and worked moves, computed from the definitions. Assumes nothing.
+-- Edges and worked moves of 01 and of 02's requests, computed from the definitions. Assumes nothing.
 use Prim.Native.Nat.{ℕ}
 use mathlib.Core.Path.{_≡_, refl}
 use mathlib.Core.Bool.{true, false}
 use mathlib.Core.List.{List, [], _∷_, map}
 use lib.ListN.{replicate}
 use Rattle.laws.specs.Setting.{total}
-use Rattle.paper.specs.declared.Refusal.the-variants.{Empty, Many, Limits as BadLimits, Length, Room}
 use Rattle.laws.specs.Square.{sqd}
+use Rattle.paper.specs.declared.Refusal.the-variants.{Empty, Many, Limits as BadLimits, Length, Room}
 use Rattle.paper.specs.declared.Penalty.the-variants.{Of, Outside, Refused}
 use Rattle.paper.specs.Paragraph.{paragraph, penalty}
 use Rattle.paper.specs.Allowed.{limitsOf as limits, pageLimitsOf as pages, limitsHold, pageLimitsHold}
@@ -52,7 +52,7 @@ pub room-edges : map (λ (ws : List ℕ). checked true ws (2 ∷ 1 ∷ 0 ∷ [])
 unfolding stripsCompute
 room-edges = refl
 
--- ---- the penalty alone, at the edges of the measure and of what may be asked; LIMITS comes before LENGTH, and LENGTH before "outside"
+-- ---- W-204: the penalty alone, at the edges of the measure and of what may be asked; LIMITS comes before LENGTH, and LENGTH before "outside"
 pub penalty-edges : map (penaltyAlone (limits 6 8 10 15)) (5 ∷ 6 ∷ 8 ∷ 10 ∷ 11 ∷ 0 ∷ 16773120 ∷ 16773121 ∷ [])
     ≡ Outside ∷ Of 60 ∷ Of 0 ∷ Of 60 ∷ Outside ∷ Outside ∷ Outside ∷ Refused (Length 0) ∷ []
 unfolding penaltyAlone limitsHold penalty sqd

@@ -1,4 +1,4 @@
--- The definitions of document 01, in its order. Each stands under the sentence of 01 that it renders.
+-- The definitions of document 01, in its order, with those that 02's requests add. Each stands under the sentence that it renders.
 pub mod Lines
 pub mod Paragraph
 pub mod Index

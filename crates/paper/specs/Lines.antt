@@ -1,6 +1,6 @@
 -- 01, "The paragraph", over what a paragraph's lines are: 01's sentences on settings, penalties and the chosen next stand here once.
 -- Settings, totals, the least over all of them and the tie rules are those of `laws` (Setting, Table, Chosen).
-use Prim.Native.Nat.{ℕ, _+_}
+use Prim.Native.Nat.{ℕ, _+_, _≤_}
 use mathlib.Core.Bool.{Bool, _&&_}
 use mathlib.Core.List.{List, _∷_}
 use lib.Dec.{leb, eqb}
@@ -26,6 +26,10 @@ pub record Lines : Type 0 where
 -- a length of at least low and at most high: inside the measure where these are lmin and lmax
 abbrev pub inside : ℕ → ℕ → ℕ → Bool
 inside low high x = leb low x && leb x high
+
+-- the same as orders
+abbrev pub Inside : ℕ → ℕ → ℕ → Type 0
+Inside low high x = (low ≤ x) × (x ≤ high)
 
 -- "Admissible: every line but the last has lmin ≤ length ≤ lmax; the last has length ≤ lmax." (and at least its least length)
 unfoldable pub admissible : Lines → ℕ → ℕ → Bool

@@ -49,7 +49,7 @@ abbrev pub toldTotal : ℕ → Told
 toldTotal total = record { number = 0; place = 0; total = total; lines = 0; moves = 0 }
 
 -- "Either refusal returns zero for the penalty." "outside" (W-204) is no refusal: it is told as 2^64 - 1, 01's "no setting", which no
--- penalty reaches.
+-- penalty inside the measure reaches (paper_theory: `penalty-bound`).
 unfoldable pub toldPenalty : Penalty → Told
 toldPenalty (Of p) = toldTotal p
 toldPenalty Outside = toldTotal (2 ^ 64 - 1)

@@ -17,7 +17,7 @@ use Rattle.paper.specs.declared.Limits.{Limits}
 use Rattle.paper.specs.declared.PageLimits.{PageLimits}
 use Rattle.paper.specs.Paragraph as Paragraph
 use Rattle.paper.specs.Lines as Lines
-use Rattle.paper.specs.Lines.{Lines, inside, admissible, charge, settings}
+use Rattle.paper.specs.Lines.{Lines, inside, Inside, admissible, charge, settings}
 use Rattle.paper.specs.Paragraph.{line, end, penalty, lines}
 use Rattle.paper.specs.Index as Index
 use Rattle.paper.specs.Index.{item, index}
@@ -49,8 +49,8 @@ module _ (p : Lines) (i j : ℕ) (t : T (admissible p i j)) where
   abbrev between : ℕ → Bool
   between least = inside least (p .lmax) (p .line i j)
 
-  ends : (least : ℕ) → T (between least) → (least ≤ p .line i j) × (p .line i j ≤ p .lmax)
-  ends least b =
+  bounds : (least : ℕ) → T (between least) → Inside least (p .lmax) (p .line i j)
+  bounds least b =
       let h = both (leb least (p .line i j)) (leb (p .line i j) (p .lmax)) b in
       (leb→le least (p .line i j) (h .0), leb→le (p .line i j) (p .lmax) (h .1))
 
@@ -60,8 +60,8 @@ module _ (p : Lines) (i j : ℕ) (t : T (admissible p i j)) where
   admissible-lmax = go (eqb j (p .end)) t
     where
       go : (last : Bool) → T (if last (between (p .lastmin)) (between (p .lmin))) → p .line i j ≤ p .lmax
-      go true b = ends (p .lastmin) b .1
-      go false b = ends (p .lmin) b .1
+      go true b = bounds (p .lastmin) b .1
+      go false b = bounds (p .lmin) b .1
 
   -- and, but for a short last line, which costs nothing, at least lmin
   pub admissible-lmin : p .lmin ≤ p .lopt → (eqb j (p .end) && leb (p .line i j) (p .lopt)) ≡ false → p .lmin ≤ p .line i j
@@ -71,7 +71,7 @@ module _ (p : Lines) (i j : ℕ) (t : T (admissible p i j)) where
       go : (last : Bool) → T (if last (between (p .lastmin)) (between (p .lmin))) → (last && leb (p .line i j) (p .lopt)) ≡ false →
           p .lmin ≤ p .line i j
       go true b paid = omega (arith, leb-false (p .line i j) (p .lopt) paid)
-      go false b paid = ends (p .lmin) b .0
+      go false b paid = bounds (p .lmin) b .0
 
 -- a line within lmax costs at most C, with what its break is charged
 module _ (p : Lines) (C : ℕ) (each : (x : ℕ) → x ≤ p .lmax → (j : ℕ) → p .penalty x + p .break j ≤ C) where

@@ -7,9 +7,9 @@ use lib.Dec.{T, leb, eqb}
 use Rattle.laws.specs.Number.{if}
 use Rattle.laws.specs.Search.{smallest}
 use Rattle.laws.specs.Setting.{Wider}
-use Rattle.laws.specs.Chosen.{next, best-alike, next-alike}
+use Rattle.laws.specs.Chosen.{best-alike, next-alike}
 use Rattle.paper.specs.Lines as Lines
-use Rattle.paper.specs.Lines.{Lines, admissible, charge, settings, free}
+use Rattle.paper.specs.Lines.{Lines, Inside, admissible, charge, settings, free}
 use Rattle.paper_theory.specs.Cheapest.{settings-sums}
 use Rattle.paper_theory.specs.Bound.{admissible-lmin, admissible-lmax}
 
@@ -27,7 +27,7 @@ byFormula formula p = record {
 }
 
 module _ (p : Lines) (order : p .lmin ≤ p .lopt) (formula : ℕ → ℕ)
-    (same : (x : ℕ) → p .lmin ≤ x → x ≤ p .lmax → formula x ≡ p .penalty x) where
+    (same : (x : ℕ) → Inside (p .lmin) (p .lmax) x → formula x ≡ p .penalty x) where
   abbrev q : Lines
   q = byFormula formula p
 
@@ -39,7 +39,7 @@ module _ (p : Lines) (order : p .lmin ≤ p .lopt) (formula : ℕ → ℕ)
       go : (short : Bool) → (eqb j (p .end) && leb (p .line i j) (p .lopt)) ≡ short →
           if short 0 (formula (p .line i j) + p .break j) ≡ if short 0 (p .penalty (p .line i j) + p .break j)
       go true e = refl
-      go false e = ap (λ (c : ℕ). c + p .break j) (same (p .line i j) (admissible-lmin p i j t order e) (admissible-lmax p i j t))
+      go false e = ap (λ (c : ℕ). c + p .break j) (same (p .line i j) (admissible-lmin p i j t order e, admissible-lmax p i j t))
 
   there : Wider (settings q) (settings p)
   unfolding settings admissible

@@ -8,7 +8,7 @@ use Rattle.laws.specs.Members.{every-slice, slice-every, slice-pairs}
 use Rattle.laws.specs.Part.{Part, part, Each, part-later}
 use Rattle.paper.specs.QueueRules.{F}
 use Rattle.lines.specs.Held.{begins, breakIn, textIn, costAt}
-use Rattle.lines.specs.Asks.{farthest, Priced, InMeasure, Through, Three}
+use Rattle.lines.specs.Asks.{farthest, Priced, EndsInside, Through, Three}
 use Rattle.lines.specs.Tests.{line-in, through-in}
 use Rattle.queue.specs.Asks.{ShedAsks, Past, Start, textAt, Readable, Member, Inside, Queued}
 
@@ -23,10 +23,10 @@ module _ {s : Start} {n : ℕ} (readable : Readable s n) where
   priced : {k : ℕ} → Inside s k → Priced (breakIn (s .ends) (s .best) k)
   priced m = record { end = omega (arith, m .high, readable .placed .bounded); number = m .member .number }
 
-  measured : {k : ℕ} → Inside s k → InMeasure (s .limits) (getD (s .ends) (k - 1) 0) (s .measure .goal)
+  measured : {k : ℕ} → Inside s k → EndsInside (s .limits) (getD (s .ends) (k - 1) 0) (s .measure .goal)
   measured m =
       let p = readable .placed in
-      record { long = omega (arith, p .near, p .goal, m .member .reach); short = omega (arith, p .far, p .goal, m .high) }
+      record { low = omega (arith, p .near, p .goal, m .member .reach); high = omega (arith, p .far, p .goal, m .high) }
 
   pub inside-through : {k : ℕ} → 1 ≤ k → Inside s k → Through (s .limits) (s .measure .goal) (s .ends) (s .best) k
   inside-through first m = record {

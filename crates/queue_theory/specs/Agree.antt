@@ -16,9 +16,9 @@ use Rattle.paper.specs.declared.Kind.the-variants.{Pass, Drop, Pop}
 use Rattle.paper.specs.Moves.{Taken, move, still, moved, joined}
 use Rattle.paper.specs.Lines.{free}
 use Rattle.paper.specs.QueueRules.{Text, Standing, F, edge, chord, bridged, dropLong, popWorse, popBridged, added, add, consider}
+use Rattle.paper.specs.QueueRules.{candidates, dropWorse, settled, atStart, afterStarts, frontBest, takenBest, takenNext}
 use Rattle.paper.specs.Applied.{popWorseApplied, popBridgedApplied, addApplied, considerApplied, candidatesApplied, dropWorseApplied}
 use Rattle.paper.specs.Applied.{frontApplied, startApplied}
-use Rattle.paper.specs.QueueRules.{candidates, dropWorse, settled, atStart, afterStarts, frontBest, takenBest, takenNext}
 use Rattle.queue_theory.specs.Scales.{Scaled}
 use Rattle.queue_theory.specs.Turns.{dropLong-more, dropLong-stop, popWorse-more, popWorse-stop, popBridged-more, popBridged-stop}
 use Rattle.queue_theory.specs.Turns.{consider-pass, consider-add, passes-gives, candidates-more, candidates-stop}
@@ -26,7 +26,7 @@ use Rattle.queue_theory.specs.Turns.{dropWorse-more, dropWorse-stop}
 use Rattle.queue_theory.specs.Leaves.{popWorse-every, popWorse-pairs}
 use Rattle.queue_theory.specs.Ready.{Measured, Held, Stood, dropLong-held, considered-above, considered-live}
 use Rattle.queue_theory.specs.Ready.{consider-held, candidates-held, stood}
-use Rattle.queue_theory.specs.Applied.{Inside, start-inside}
+use Rattle.queue_theory.specs.Applied.{InMeasure, start-inside}
 
 -- a text with the limits of t, and other parts
 abbrev pub textWith : Text → ℕ → (ℕ → ℕ) → (ℕ → ℕ → ℕ) → (ℕ → ℕ) → (ℕ → ℕ → ℕ) → (ℕ → Cost) → Text
@@ -225,7 +225,7 @@ module _ {t : Text} (s : Scaled t) (end : ℕ) (formula : ℕ → ℕ) {lines : 
 
 -- So a formula that agrees inside the measure takes the same moves and leaves the same queue at every start.
 pub formula-same : {t : Text} (s : Scaled t) (n : ℕ) → t .lines .end ≡ n + 1 → (formula : ℕ → ℕ) →
-    ((x : ℕ) → Inside t x → formula x ≡ t .lines .penalty x) → {bests : ℕ → Cost} →
+    ((x : ℕ) → InMeasure t x → formula x ≡ t .lines .penalty x) → {bests : ℕ → Cost} →
     ((k : ℕ) → 1 ≤ k → k ≤ t .lines .end → bests k ≡ t .best k) → (d : ℕ) → d ≤ n →
     afterStarts (textWith t (t .lines .end) formula (t .lines .line) (t .lines .break) (t .apart) bests) n d ≡ afterStarts t n d
 unfolding afterStarts
@@ -239,5 +239,5 @@ formula-same {t} s n size formula same {bests} later (suc d) h =
     (atStart-same s (t .lines .end) formula (t .lines .break) (omega arith)
     (record { from-start = λ k g f. refl; between = λ j k g f e. refl; later = λ k g f. later k (omega arith) f })
     (a .stands) before
-    (every-map (Inside t) (λ (x : ℕ). formula x ≡ t .lines .penalty x) same (startApplied t (n - d) (a .stands))
+    (every-map (InMeasure t) (λ (x : ℕ). formula x ≡ t .lines .penalty x) same (startApplied t (n - d) (a .stands))
     (start-inside s (omega arith) (a .stands) before)))

@@ -9,12 +9,12 @@ use lib.ListN.{length}
 use borrow.Author.Tests.{le-leb, lt-leb}
 use Rattle.laws.specs.Cost.{Cost, none, some, before}
 use Rattle.laws.specs.Members.{Every, every-map}
-use Rattle.laws.specs.Number.{held}
+use Rattle.laws.specs.Number.{is-true}
 use Rattle.paper.specs.declared.Limits.{Limits}
 use Rattle.paper.specs.declared.Penalty.the-variants.{Of}
 use Rattle.paper.specs.Allowed.{limitsHold, ParagraphPassed}
 use Rattle.paper.specs.Lines as Lines
-use Rattle.paper.specs.Lines.{free}
+use Rattle.paper.specs.Lines.{Inside, free}
 use Rattle.paper.specs.Paragraph.{line, end, penalty, lines, best, chosenNext}
 use Rattle.paper.specs.QueueRules.{textOf, frontNext, takenBest, takenNext, queueAt, queueMoves, afterStarts}
 use Rattle.paper.specs.Applied.{applied}
@@ -72,21 +72,22 @@ module _ (l : Limits) (ws : List ℕ) (passed : ParagraphPassed l ws) where
   at-most-2n = moves-so-far scaled (length ws) size (length ws) (omega arith)
 
   -- ---- W-204. At every start, every length to which the queue rules apply the formula is inside the measure.
-  module _ (i : ℕ) (start : 1 ≤ i) (inside : i ≤ length ws) where
-    pub inside-the-measure : Every (λ (x : ℕ). (l .lmin ≤ x) × (x ≤ l .lmax)) (applied l ws i)
+  module _ (i : ℕ) (start : 1 ≤ i) (early : i ≤ length ws) where
+    pub inside-the-measure : Every (Inside (l .lmin) (l .lmax)) (applied l ws i)
     unfolding applied textOf lines
     inside-the-measure =
         start-inside scaled start (afterStarts (textOf l ws) (length ws) (length ws - i) .stands)
-        (stood-before scaled (length ws) size i inside)
+        (stood-before scaled (length ws) size i early)
 
     -- "The breaker never meets "outside" where the queue rules apply the formula": asked for alone, each is given its number.
     pub never-outside : Every (λ (x : ℕ). penaltyAlone l x ≡ Of (penalty l x)) (applied l ws i)
     never-outside =
-        every-map (λ (x : ℕ). (l .lmin ≤ x) × (x ≤ l .lmax)) (λ (x : ℕ). penaltyAlone l x ≡ Of (penalty l x))
-        (λ x h. alone-inside l x (held (limitsHold l) (passed .limits)) (h .0) (h .1)) (applied l ws i) inside-the-measure
+        every-map (Inside (l .lmin) (l .lmax)) (λ (x : ℕ). penaltyAlone l x ≡ Of (penalty l x))
+        (λ x h. alone-inside l x (is-true (limitsHold l) (passed .limits)) (h .0) (h .1)) (applied l ws i) inside-the-measure
 
-  -- So any formula that agrees inside the measure gives the same bests, the same nexts, and with these bests the same moves and queues.
-  module _ (formula : ℕ → ℕ) (same : (x : ℕ) → l .lmin ≤ x → x ≤ l .lmax → formula x ≡ penalty l x) where
+  -- Any formula that agrees inside the measure gives the same bests and nexts, since an admissible line is inside it or costs nothing; and
+  -- so, by the above, the same moves and queues.
+  module _ (formula : ℕ → ℕ) (same : (x : ℕ) → Inside (l .lmin) (l .lmax) x → formula x ≡ penalty l x) where
     pub same-bests : (i : ℕ) → i ≤ end ws → Lines.best (byFormula formula (lines l ws)) i ≡ best l ws i
     unfolding best lines
     same-bests = formula-best (lines l ws) (r .lopt-low) formula same
@@ -103,7 +104,7 @@ module _ (l : Limits) (ws : List ℕ) (passed : ParagraphPassed l ws) where
           best = Lines.best (byFormula formula (lines l ws));
         }) (length ws) d ≡ afterStarts (textOf l ws) (length ws) d
     unfolding textOf lines
-    same-moves = formula-same scaled (length ws) size formula (λ x h. same x (h .0) (h .1)) (λ k low high. same-bests k high)
+    same-moves = formula-same scaled (length ws) size formula same (λ k low high. same-bests k high)
 
   module _ (i : ℕ) (start : 1 ≤ i) (inside : i ≤ length ws) where
     -- what stands after start i, from front to rear

@@ -36,8 +36,7 @@ penalty-requires c κs =
     let asked = low .before .before in
     let hold = asked .before .before .limits-hold in (
       ranges _ (rw (sym (hold .ensures) ∙ not-false (hold .result) (asked .before .if1 .left)) tt),
-      low .if3 .left,
-      ltb-false _ _ (c .if4 .left),
+      (low .if3 .left, ltb-false _ _ (c .if4 .left)),
     )
 
 returns-4 : tie.Need-returns-4
