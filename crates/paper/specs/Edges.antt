@@ -52,7 +52,7 @@ pub room-edges : map (λ (ws : List ℕ). checked true ws (2 ∷ 1 ∷ 0 ∷ [])
 unfolding stripsCompute
 room-edges = refl
 
--- ---- W-204: the penalty alone, at the edges of the measure and of what may be asked; LIMITS comes before LENGTH, and LENGTH before "outside"
+-- ---- W-204: the penalty alone, at the edges of the measure and of what may be asked. LIMITS comes before LENGTH, LENGTH before "outside".
 pub penalty-edges : map (penaltyAlone (limits 6 8 10 15)) (5 ∷ 6 ∷ 8 ∷ 10 ∷ 11 ∷ 0 ∷ 16773120 ∷ 16773121 ∷ [])
     ≡ Outside ∷ Of 60 ∷ Of 0 ∷ Of 60 ∷ Outside ∷ Outside ∷ Outside ∷ Refused (Length 0) ∷ []
 unfolding penaltyAlone limitsHold penalty sqd

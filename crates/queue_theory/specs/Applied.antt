@@ -56,7 +56,8 @@ module _ {t : Text} (s : Scaled t) {i : ℕ} (start : 1 ≤ i) where
       (popWorse-pairs t (λ (a b : ℕ). a < b) i j (reverse q) (pairs-reverse (λ (a b : ℕ). b < a) q (h .falls)))
       (popWorse-every t (Measured t i) i j (reverse q) live))
 
-  consider-inside : (j : ℕ) (q : List ℕ) → Held t i j q → t .lines .lmin ≤ t .lines .line i j → Every (InMeasure t) (considerApplied t i j q)
+  consider-inside : (j : ℕ) (q : List ℕ) → Held t i j q → t .lines .lmin ≤ t .lines .line i j →
+      Every (InMeasure t) (considerApplied t i j q)
   unfolding considerApplied
   consider-inside j q h reach =
       passes-gives t i j (λ (b : Bool). Every (InMeasure t) (elim b [ true ↦ [] | false ↦ addApplied t i j q ]))
@@ -79,7 +80,8 @@ module _ {t : Text} (s : Scaled t) {i : ℕ} (start : 1 ≤ i) where
   dropWorse-inside [] live = tt
   dropWorse-inside (j ∷ []) live = tt
   dropWorse-inside (j ∷ k ∷ q) live =
-      let more = every-if (InMeasure t) (leb (F t i k) (F t i j)) (dropWorseApplied t i (k ∷ q)) (λ b. dropWorse-inside (k ∷ q) (live .1)) in
+      let more = every-if (InMeasure t) (leb (F t i k) (F t i j)) (dropWorseApplied t i (k ∷ q))
+      (λ b. dropWorse-inside (k ∷ q) (live .1)) in
       (line-inside (live .1 .0), (line-inside (live .0), more))
 
   front-inside : (q : List ℕ) → Every (Measured t i) q → Every (InMeasure t) (frontApplied t i q)
