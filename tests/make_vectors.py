@@ -147,6 +147,9 @@ def traced_jobs():
     ]
     asked = [5, 6, 7, 8, 9, 10, 11, 0, 4096, oracle.MOST_ALONE, oracle.MOST_ALONE + 1, 2**32 - 1]
     lines = [job_of(Limits(6, 8, 10, 15), asked), job_of(Limits(6, 8, 6, 1), asked), job_of(Limits(1, 1, 4095, 15), asked[1:] + [4095])]
+    # W-206: the greatest products, at either end of a measure, alone and in the rules
+    ends = [1, 4095, 4094, 1, 4094, 1, 2, 4093, 2, 4095, 1]
+    lines += [job_of(Limits(1, lopt, 4095, a), ends) for lopt in (1, 4095) for a in (1, 15)]
     return marked_jobs() + chord_jobs() + bridged_jobs(r, 12) + refused + lines + random_jobs(r, 72, 12)
 
 

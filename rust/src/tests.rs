@@ -94,7 +94,18 @@ fn penalties_alone() {
     }
     assert_eq!(penalty(measure, 16_773_121), Err(Refusal::Length { word: 0 }));
     assert_eq!(penalty(limits(6, 8, 6, 1), 16_773_121), Err(Refusal::Limits));
-    assert_eq!(penalty(limits(1, 1, 4095, 15), 4095), Ok(Penalty::Of(15 * 4094 * 4094)));
+}
+
+/// W-206: the product is taken in 32 bits. Every distance above and below lopt, by every weight, against 64.
+#[test]
+fn every_distance_by_every_weight() {
+    for a in 1..=15 {
+        for length in 1..=4095 {
+            let (over, under) = (u64::from(length) - 1, 4095 - u64::from(length));
+            assert_eq!(penalty(limits(1, 1, 4095, a), length), Ok(Penalty::Of(u64::from(a) * over * over)));
+            assert_eq!(penalty(limits(1, 4095, 4095, a), length), Ok(Penalty::Of(u64::from(a) * under * under)));
+        }
+    }
 }
 
 #[test]

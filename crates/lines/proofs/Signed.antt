@@ -1,5 +1,5 @@
--- The square of a signed difference of two unsigned numbers. Assumes nothing.
-use Prim.Native.Nat.{ℕ, zero, suc, _+_, _-_, _*_, _≤_, _<_}
+-- The square of a signed difference of two unsigned numbers, over the width. Assumes nothing.
+use Prim.Native.Nat.{ℕ, zero, suc, _+_, _-_, _*_, _^_, _≤_, _<_}
 use mathlib.Core.Path.{_≡_, refl, sym, ap, subst, _∙_}
 use mathlib.Core.Bool.{Bool, true, false, cond}
 use mathlib.Core.Logic.{⊎-elim}
@@ -9,12 +9,11 @@ use borrow.Author.Tests.{ltb-true, ltb-false}
 use lib.Dec.{T, ltb}
 use lib.IntN.{ℤ, pos, negsuc, natAbs, _-ℤ_, _*ℤ_}
 use lib.Signed.{mag, nonNeg}
-use mir.Syntax.{w64}
-use mir.Val.{Fits, SFits, toZ, ofZ}
+use mir.Syntax.{Width}
+use mir.Val.{Fits, SFits, bits, hbits, toZ, ofZ}
 use mir.Facts.{toZ-pos, toZ-ofZ}
 use Rattle.laws.specs.Number.{split}
 use Rattle.laws.specs.Square.{sqd}
-use Rattle.lines.specs.Asks.{farthest, Squaring}
 
 -- how far apart two numbers lie: one of the two differences is 0
 abbrev gap : ℕ → ℕ → ℕ
@@ -28,7 +27,8 @@ gap-square x y =
     (λ (h : y < x). let u : y - x ≡ 0 = omega arith in rw u (omega arith))
     (split x y)
 
-pub sqd-fits : (x y m : ℕ) → x ≤ m → y ≤ m → sqd x y ≤ m * m
+-- numbers that lie at most m apart
+pub sqd-fits : (x y m : ℕ) → x ≤ y + m → y ≤ x + m → sqd x y ≤ m * m
 sqd-fits x y m h k = rw (← gap-square x y) (mul-le-mul (omega arith) (omega arith))
 
 -- a signed difference and a signed square, by their size alone
@@ -48,33 +48,39 @@ mag-below : (z : ℤ) → mag z ≤ natAbs z
 mag-below (pos n) = omega arith
 mag-below (negsuc n) = omega arith
 
+-- both numbers, and the square of how far they lie apart, fit the width with a sign
+pub record Squaring (w : Width) (x y : ℕ) : Type 0 where
+  pub left : x < 2 ^ hbits w
+  pub right : y < 2 ^ hbits w
+  pub square : sqd x y < 2 ^ hbits w
+
 -- what the machine computes from x and y: a signed number is read from its bits by toZ and written to them by ofZ, which keep it where
 -- it fits
-module _ {x y : ℕ} (q : Squaring x y) where
-  read : toZ w64 x -ℤ toZ w64 y ≡ pos x -ℤ pos y
-  read = rw (toZ-pos w64 {n = x} (omega (arith, q .left)), toZ-pos w64 {n = y} (omega (arith, q .right)))
+module _ {w : Width} {x y : ℕ} (q : Squaring w x y) where
+  read : toZ w x -ℤ toZ w y ≡ pos x -ℤ pos y
+  read = rw (toZ-pos w {n = x} (q .left), toZ-pos w {n = y} (q .right))
 
-  pub sub-fits : SFits w64 (toZ w64 x -ℤ toZ w64 y)
-  sub-fits = subst (SFits w64) (sym read) (record { sfits = omega (arith, mag-below (pos x -ℤ pos y), difference x y) })
+  pub sub-fits : SFits w (toZ w x -ℤ toZ w y)
+  sub-fits =
+      subst (SFits w) (sym read)
+      (record { sfits = omega (arith, mag-below (pos x -ℤ pos y), difference x y, q .left, q .right) })
 
   abbrev d : ℤ
-  d = toZ w64 (ofZ w64 (toZ w64 x -ℤ toZ w64 y))
+  d = toZ w (ofZ w (toZ w x -ℤ toZ w y))
 
   squared : d *ℤ d ≡ pos (sqd x y)
   squared =
       ap (λ (z : ℤ). z *ℤ z) (toZ-ofZ sub-fits ∙ read) ∙ square (pos x -ℤ pos y) ∙
       ap (λ (n : ℕ). pos (n * n)) (difference x y) ∙ ap pos (gap-square x y)
 
-  pub mul-fits : SFits w64 (d *ℤ d)
-  mul-fits = subst (SFits w64) (sym squared) (record { sfits = omega (arith, sqd-fits x y (2 * farthest) (q .left) (q .right)) })
+  pub mul-fits : SFits w (d *ℤ d)
+  mul-fits = subst (SFits w) (sym squared) (record { sfits = q .square })
 
-  read-square : toZ w64 (ofZ w64 (d *ℤ d)) ≡ pos (sqd x y)
+  read-square : toZ w (ofZ w (d *ℤ d)) ≡ pos (sqd x y)
   read-square = toZ-ofZ mul-fits ∙ squared
 
-  pub cast-fits : T (nonNeg (toZ w64 (ofZ w64 (d *ℤ d)))) × Fits w64 (natAbs (toZ w64 (ofZ w64 (d *ℤ d))))
-  cast-fits =
-      subst (λ (z : ℤ). T (nonNeg z) × Fits w64 (natAbs z)) (sym read-square)
-      (tt, record { fits = omega (arith, sqd-fits x y (2 * farthest) (q .left) (q .right)) })
+  pub cast-fits : {v : Width} → sqd x y < 2 ^ bits v → T (nonNeg (toZ w (ofZ w (d *ℤ d)))) × Fits v (natAbs (toZ w (ofZ w (d *ℤ d))))
+  cast-fits {v} h = subst (λ (z : ℤ). T (nonNeg z) × Fits v (natAbs z)) (sym read-square) (tt, record { fits = h })
 
-  pub cast-is : natAbs (toZ w64 (ofZ w64 (d *ℤ d))) ≡ sqd x y
+  pub cast-is : natAbs (toZ w (ofZ w (d *ℤ d))) ≡ sqd x y
   cast-is = ap natAbs read-square

@@ -1,17 +1,34 @@
 -- Products that fit. Assumes nothing.
-use Prim.Native.Nat.{ℕ, _*_, _^_, _≤_, _<_}
-use mathlib.Core.Path.{_≡_}
+use Prim.Native.Nat.{ℕ, _*_, _≤_, _<_}
+use mir.Syntax.{w32}
 use native.Mathlib.Nat.{mul-le-mul}
 use native.Mathlib.Omega.{arith}
 use Rattle.laws.specs.Square.{sqd}
 use Rattle.paper.specs.declared.Limits.{Limits}
-use Rattle.lines.proofs.Signed.{sqd-fits}
-use Rattle.lines.specs.Asks.{farthest, costliest, Weighing, Products}
+use Rattle.paper_theory.specs.Ranges.{Ranges}
+use Rattle.lines.proofs.Signed.{sqd-fits, Squaring}
+use Rattle.lines.specs.Asks.{costliest, Weighing, Products}
 
--- a and s are the weight and the square as the code has them
-pub weighed-fits : {l : Limits} {x y a s : ℕ} → Weighing l x y → a ≡ l .a → s ≡ sqd x y → a * s ≤ 2 ^ 56
-weighed-fits {l} {x} {y} {a} {s} w e f =
-    rw (e, f) (omega (arith, mul-le-mul (w .weight) (sqd-fits x y (2 * farthest) (w .square .left) (w .square .right))))
+-- A line inside the measure is no farther from its best length than lmin from lmax, and so at most 4,094.
+module _ {l : Limits} {x y : ℕ} (w : Weighing l x y) where
+  abbrev r : Ranges l
+  r = w .ranges
+
+  pub square-fits : sqd x y ≤ 4094 * 4094
+  square-fits =
+      sqd-fits x y 4094
+      (omega (arith, w .inside .high, r .lmin-low, r .lopt-low, r .lmax-high))
+      (omega (arith, w .inside .low, r .lmin-low, r .lopt-high, r .lmax-high))
+
+  pub squaring : Squaring w32 x y
+  squaring = record {
+    left = omega (arith, w .bounded, w .inside .high, r .lmax-high);
+    right = omega (arith, w .bounded);
+    square = omega (arith, square-fits);
+  }
+
+  pub weighed-fits : l .a * sqd x y ≤ 15 * (4094 * 4094)
+  weighed-fits = mul-le-mul (r .a-high) square-fits
 
 -- every product of the second test
 pub record Fitting (a jk jn kn bj bk bn : ℕ) : Type 0 where

@@ -45,11 +45,6 @@ pub record Indexed (E : List ℕ) (j : ℕ) : Type 0 where
   pub first : 1 ≤ j
   pub within : j ≤ length E
 
--- numbers whose square apart fits
-pub record Squaring (x y : ℕ) : Type 0 where
-  pub left : x ≤ 2 * farthest
-  pub right : y ≤ 2 * farthest
-
 -- A line that ends at x, and would be best if it ended at y, has the length x + lopt - y. It is inside the measure.
 pub record EndsInside (l : Limits) (x y : ℕ) : Type 0 where
   pub low : y + l .lmin ≤ x + l .lopt
@@ -57,8 +52,8 @@ pub record EndsInside (l : Limits) (x y : ℕ) : Type 0 where
 
 -- the penalty of such a line
 pub record Weighing (l : Limits) (x y : ℕ) : Type 0 where
-  pub weight : l .a ≤ 15
-  pub square : Squaring x y
+  pub ranges : Ranges l
+  pub bounded : y ≤ 2 * farthest
   pub inside : EndsInside l x y
 
 -- a break that has a setting, and ends within what is measured
@@ -67,7 +62,7 @@ pub record Priced (b : Break) : Type 0 where
   pub number : b .best < costliest
 
 pub record Curved (l : Limits) (goal : ℕ) (b : Break) : Type 0 where
-  pub weight : l .a ≤ 15
+  pub ranges : Ranges l
   pub bounded : goal ≤ farthest
   pub break : Priced b
   pub inside : EndsInside l (b .end) goal

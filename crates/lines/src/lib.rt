@@ -10,7 +10,7 @@ ghost use Rattle.paper_theory.specs.Ranges.{Ranges};
 ghost use Rattle.paper.specs.Lines.{Inside};
 ghost use Rattle.paper.specs.Paragraph.{penalty as formula};
 ghost use Rattle.lines.specs.Held.{span, begins, breakIn, costAt, sideAt, edgeAt, chordOf, chordAt, bridgedAt};
-ghost use Rattle.lines.specs.Asks.{Span, Beginning, Placed, Indexed, Squaring, Weighing, Curved, Through, Sided, Three, Products};
+ghost use Rattle.lines.specs.Asks.{Span, Beginning, Placed, Indexed, Weighing, Curved, Through, Sided, Three, Products};
 
 // Where a line from a start is inside the measure: it ends at near to far, at best at goal.
 pub struct Measure {
@@ -65,21 +65,14 @@ pub fn break_of(ends: &[u32], best: &[u64], j: u32) -> Break
     }
 }
 
-// (x - y)², by a signed difference: the machine need not find which of the two is the greater.
-fn square_apart(x: u32, y: u32) -> u64
-    requires { ⌜ Squaring x y ⌝ }
-    ensures { λ r. ⌜ r ≡ sqd x y ⌝ }
-{
-    let d = x as i64 - y as i64;
-    (d * d) as u64
-}
-
-// A·(x - y)², the penalty of a line that ends at x and would be best at y. It is asked of a line inside the measure only (W-204).
+// A·(x - y)², the penalty of a line that ends at x and would be best at y. It is asked of a line inside the measure only (W-204), so that
+// square and product fit 32 bits (W-206). By a signed difference the machine need not find which of the two is the greater.
 fn weighed(l: Limits, x: u32, y: u32) -> u64
     requires { ⌜ Weighing l x y ⌝ }
-    ensures { λ r. ⌜ (r ≡ l .a * sqd x y) × (r ≤ 2 ^ 56) ⌝ }
+    ensures { λ r. ⌜ (r ≡ l .a * sqd x y) × (r < 2 ^ 28) ⌝ }
 {
-    long(l.a) * square_apart(x, y)
+    let d = x as i32 - y as i32;
+    long(l.a * (d * d) as u32)
 }
 
 // The penalty formula, A·(x - lopt)², inside the measure.
@@ -93,7 +86,7 @@ pub fn penalty(l: Limits, x: u32) -> u64
 // A line that is best at goal, with the best of its break.
 pub fn curve(l: Limits, goal: u32, b: Break) -> u64
     requires { ⌜ Curved l goal b ⌝ }
-    ensures { λ r. ⌜ (r ≡ costAt l goal b) × (r < 2 ^ 57) ⌝ }
+    ensures { λ r. ⌜ (r ≡ costAt l goal b) × (r < 2 ^ 64 - 1) ⌝ }
 {
     b.best + weighed(l, b.end, goal)
 }
@@ -101,7 +94,7 @@ pub fn curve(l: Limits, goal: u32, b: Break) -> u64
 // F(i, j) = best of j + A·(Line(i, j) - lopt)².
 pub fn through(l: Limits, goal: u32, ends: &[u32], best: &[u64], j: u32) -> u64
     requires { ⌜ Through l goal (now ends) (now best) j ⌝ }
-    ensures { λ r. ⌜ (r ≡ costAt l goal (breakIn (now (ends .entry)) (now (best .entry)) j)) × (r < 2 ^ 57) ⌝ }
+    ensures { λ r. ⌜ (r ≡ costAt l goal (breakIn (now (ends .entry)) (now (best .entry)) j)) × (r < 2 ^ 64 - 1) ⌝ }
 {
     curve(l, goal, break_of(ends, best, j))
 }

@@ -61,15 +61,19 @@ abbrev WorseDropping : Limits → ℕ → List ℕ → List ℕ → Part → ℕ
 WorseDropping l goal E B q t m₀ m r u =
     Shedding (λ (y : CostsAt l goal E B q) (p : Part). dropWorse (y .text) (y .start) (listed p)) q (part (q .strip) r (q .to)) t m₀ m u
 
+-- what break k costs, and that it is a number
+abbrev Costs : Limits → ℕ → List ℕ → List ℕ → ℕ → ℕ → Type 0
+Costs l goal E B k cost = (cost ≡ costAt l goal (breakIn E B k)) × (cost < 2 ^ 64 - 1)
+
 pub record Leading (l : Limits) (goal : ℕ) (E B : List ℕ) (q : Part) (t : ℕ) (m₀ m : List ℕ) (r u cost : ℕ) : Type 0 where
   pub shed : WorseDropping l goal E B q t m₀ m r u
   pub some : r < q .to
-  pub is : (cost ≡ costAt l goal (breakIn E B (getD (q .strip) r 0))) × (cost < 2 ^ 57)
+  pub is : Costs l goal E B (getD (q .strip) r 0) cost
 
 module _ {l : Limits} {goal : ℕ} {E B : List ℕ} {q : Part} {t : ℕ} {m₀ : List ℕ}
     (asks : ShedAsks (Through l goal E B) q t (length m₀)) where
-  pub lead-first : {cost : ℕ} → q .from < q .to →
-      (cost ≡ costAt l goal (breakIn E B (getD (q .strip) (q .from) 0))) × (cost < 2 ^ 57) → Leading l goal E B q t m₀ m₀ (q .from) t cost
+  pub lead-first : {cost : ℕ} → q .from < q .to → Costs l goal E B (getD (q .strip) (q .from) 0) cost →
+      Leading l goal E B q t m₀ m₀ (q .from) t cost
   lead-first some is = record { shed = shed-first asks; some = some; is = is }
 
   -- with an empty queue there is no setting
@@ -91,8 +95,7 @@ module _ {l : Limits} {goal : ℕ} {E B : List ℕ} {q : Part} {t : ℕ} {m₀ :
     front-cost : (y : CostsAt l goal E B q) → cost ≡ F (y .text) (y .start) (getD (q .strip) r 0)
     front-cost y = inv .is .0 ∙ y .each r (inv .shed .low) (inv .some)
 
-    module _ {second : ℕ} (more : r + 1 < q .to)
-        (is : (second ≡ costAt l goal (breakIn E B (getD (q .strip) (r + 1) 0))) × (second < 2 ^ 57)) where
+    module _ {second : ℕ} (more : r + 1 < q .to) (is : Costs l goal E B (getD (q .strip) (r + 1) 0) second) where
       second-cost : (y : CostsAt l goal E B q) → second ≡ F (y .text) (y .start) (getD (q .strip) (r + 1) 0)
       second-cost y = is .0 ∙ y .each (r + 1) (omega (arith, inv .shed .low)) more
 

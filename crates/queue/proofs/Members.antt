@@ -32,7 +32,7 @@ module _ {s : Start} {n : ℕ} (readable : Readable s n) where
   inside-through first m = record {
     index = record { first = first; within = m .member .within };
     same = omega (arith, readable .ends, readable .bests);
-    curve = record { weight = readable .ranges .a-high; bounded = bounded; break = priced m; inside = measured m };
+    curve = record { ranges = readable .ranges; bounded = bounded; break = priced m; inside = measured m };
   }
 
   -- the candidate j, the rear k and its neighbour o
