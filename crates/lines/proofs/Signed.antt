@@ -3,7 +3,6 @@ use Prim.Native.Nat.{ℕ, zero, suc, _+_, _-_, _*_, _^_, _≤_, _<_}
 use mathlib.Core.Path.{_≡_, refl, sym, ap, subst, _∙_}
 use mathlib.Core.Bool.{Bool, true, false, cond}
 use mathlib.Core.Logic.{⊎-elim}
-use native.Mathlib.Nat.{mul-le-mul}
 use native.Mathlib.Omega.{arith}
 use borrow.Author.Tests.{ltb-true, ltb-false}
 use lib.Dec.{T, ltb}
@@ -26,10 +25,6 @@ gap-square x y =
     (λ (h : x ≤ y). let u : x - y ≡ 0 = omega arith in rw u (omega arith))
     (λ (h : y < x). let u : y - x ≡ 0 = omega arith in rw u (omega arith))
     (split x y)
-
--- numbers that lie at most m apart
-pub sqd-fits : (x y m : ℕ) → x ≤ y + m → y ≤ x + m → sqd x y ≤ m * m
-sqd-fits x y m h k = rw (← gap-square x y) (mul-le-mul (omega arith) (omega arith))
 
 -- a signed difference and a signed square, by their size alone
 difference : (x y : ℕ) → natAbs (pos x -ℤ pos y) ≡ gap x y

@@ -1,34 +1,40 @@
 -- Products that fit. Assumes nothing.
-use Prim.Native.Nat.{ℕ, _*_, _≤_, _<_}
+use Prim.Native.Nat.{ℕ, _+_, _-_, _*_, _^_, _≤_, _<_}
+use mathlib.Core.Path.{_≡_, _∙_}
 use mir.Syntax.{w32}
-use native.Mathlib.Nat.{mul-le-mul}
+use native.Mathlib.Nat.{mul-le-mul, mul-le-mul-right}
 use native.Mathlib.Omega.{arith}
-use Rattle.laws.specs.Square.{sqd}
+use Rattle.laws.specs.Square.{sqd, sqd-line, sqd-shift}
 use Rattle.paper.specs.declared.Limits.{Limits}
-use Rattle.paper_theory.specs.Ranges.{Ranges}
-use Rattle.lines.proofs.Signed.{sqd-fits, Squaring}
+use Rattle.paper.specs.Paragraph.{penalty}
+use Rattle.paper_theory.specs.Bound.{penalty-bound}
+use Rattle.lines.proofs.Signed.{Squaring}
 use Rattle.lines.specs.Asks.{costliest, Weighing, Products}
 
--- A line inside the measure is no farther from its best length than lmin from lmax, and so at most 4,094.
+-- "the penalty of a line inside the measure stays below 2^28", read by where the line ends; so its square does too, A being at least 1
 module _ {l : Limits} {x y : ℕ} (w : Weighing l x y) where
-  abbrev r : Ranges l
-  r = w .ranges
+  abbrev length : ℕ
+  length = x + l .lopt - y
 
-  pub square-fits : sqd x y ≤ 4094 * 4094
-  square-fits =
-      sqd-fits x y 4094
-      (omega (arith, w .inside .high, r .lmin-low, r .lopt-low, r .lmax-high))
-      (omega (arith, w .inside .low, r .lmin-low, r .lopt-high, r .lmax-high))
+  begun : y ≤ x + l .lopt
+  begun = omega (arith, w .inside .low)
+
+  by-length : sqd length (l .lopt) ≡ sqd x y
+  by-length = sqd-line (x + l .lopt) y (l .lopt) begun ∙ sqd-shift x y (l .lopt)
+
+  pub weighed-fits : l .a * sqd x y < 2 ^ 28
+  unfolding penalty
+  weighed-fits = rw (← by-length) (penalty-bound l (w .ranges) length (omega (arith, w .inside .high)))
+
+  pub square-fits : sqd x y < 2 ^ 28
+  square-fits = omega (arith, mul-le-mul-right (sqd x y) (w .ranges .a-low), weighed-fits)
 
   pub squaring : Squaring w32 x y
   squaring = record {
-    left = omega (arith, w .bounded, w .inside .high, r .lmax-high);
+    left = omega (arith, w .bounded, w .inside .high, w .ranges .lmax-high);
     right = omega (arith, w .bounded);
     square = omega (arith, square-fits);
   }
-
-  pub weighed-fits : l .a * sqd x y ≤ 15 * (4094 * 4094)
-  weighed-fits = mul-le-mul (r .a-high) square-fits
 
 -- every product of the second test
 pub record Fitting (a jk jn kn bj bk bn : ℕ) : Type 0 where

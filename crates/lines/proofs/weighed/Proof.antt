@@ -20,7 +20,7 @@ mul-long-2 : tie.Need-mul-long-2
 mul-long-2 c = rw (cast-is (squaring (c .before .pre))) (omega (arith, weighed-fits (c .before .pre)))
 
 returns : tie.Need-returns
-returns c = rw (c .long .ensures, cast-is (squaring (c .before .before .pre))) (refl, omega (arith, weighed-fits (c .before .before .pre)))
+returns c = rw (c .long .ensures, cast-is (squaring (c .before .before .pre))) (refl, weighed-fits (c .before .before .pre))
 
 pub weighed-spec : {M : Type 1} → statement M
 weighed-spec =
