@@ -28,8 +28,8 @@ static void try_lines(HathurmoLimits l, const uint32_t *sums, size_t n, uint64_t
             break;
         if (x < l.lmin || best[j - 1] == NO_SETTING)
             continue;
-        int64_t off = (int64_t)x - l.lopt;
-        uint64_t total = best[j - 1] + l.a * (uint64_t)(off * off);
+        int32_t off = (int32_t)x - (int32_t)l.lopt;
+        uint64_t total = best[j - 1] + l.a * (uint32_t)(off * off);
         if (total < least) {
             least = total;
             chosen = (uint32_t)j;

@@ -74,9 +74,10 @@ static inline uint32_t line(const Queue *q, size_t i, size_t j) {
     return q->sums[j - 1] - q->sums[i - 1];
 }
 
+/* Inside the measure, so 32 bits hold the product (W-206). */
 static inline uint64_t penalty(HathurmoLimits l, uint32_t x) {
-    int64_t d = (int64_t)x - l.lopt;
-    return l.a * (uint64_t)(d * d);
+    int32_t d = (int32_t)x - (int32_t)l.lopt;
+    return l.a * (uint32_t)(d * d);
 }
 
 static inline uint64_t through(const Queue *q, size_t i, size_t j) {

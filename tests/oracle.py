@@ -732,7 +732,7 @@ def test_penalty():
         assert penalty_alone(limits, x) == Told(0, 0, NO_SETTING, 0, 0)
     assert penalty_alone(limits, MOST_ALONE + 1) == Told(LENGTH, 0, 0, 0, 0)
     assert penalty_alone(Limits(6, 8, 6, 1), MOST_ALONE + 1) == Told(LIMITS, 0, 0, 0, 0)
-    greatest = 251_412_540  # 15·4,094², as W-206 has it
+    greatest = 251_412_540  # 15·4,094², below 01's 2^28
     assert penalty_alone(Limits(1, 1, 4095, 15), 4095).total == greatest == penalty_alone(Limits(1, 4095, 4095, 15), 1).total
 
 

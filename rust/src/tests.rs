@@ -1,4 +1,4 @@
-//! The compositor's table and each refusal through the safe functions. The engine itself is tried in tests/outside.
+//! The compositor's table, each refusal and every penalty through the safe functions. The rest of the engine is tried in tests/outside.
 use super::*;
 
 fn limits(lmin: u32, lopt: u32, lmax: u32, a: u32) -> Limits {
@@ -96,7 +96,7 @@ fn penalties_alone() {
     assert_eq!(penalty(limits(6, 8, 6, 1), 16_773_121), Err(Refusal::Limits));
 }
 
-/// W-206: the product is taken in 32 bits. Every distance above and below lopt, by every weight, against 64.
+/// W-206: the product is taken in 32 bits. Every distance above and below lopt, by every weight, against the product in 64 bits.
 #[test]
 fn every_distance_by_every_weight() {
     for a in 1..=15 {

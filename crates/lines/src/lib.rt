@@ -3,7 +3,7 @@
 use paper::Limits;
 use strips::long;
 ghost use mathlib.Core.Path.{_≡_};
-ghost use Prim.Native.Nat.{_-_, _*_, _^_, _≤_, _<_};
+ghost use Prim.Native.Nat.{_-_, _*_, _^_, _<_};
 ghost use lib.ListN.{length, getD};
 ghost use Rattle.laws.specs.Square.{sqd};
 ghost use Rattle.paper_theory.specs.Ranges.{Ranges};
