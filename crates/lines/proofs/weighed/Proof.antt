@@ -8,7 +8,7 @@ use Rattle.lines.proofs.weighed.Statement.{statement}
 use Rattle.lines.proofs.weighed.Tie as tie
 
 sub-d : tie.Need-sub-d
-sub-d c = sub-fits (squaring (c .pre))
+sub-d c = search (needs, sub-fits (squaring (c .pre)))
 
 mul-long : tie.Need-mul-long
 mul-long c = mul-fits (squaring (c .pre))
