@@ -44,16 +44,19 @@ typedef struct {
     int paged;
     uint32_t shortest, longest; /* lengths at random between these; both 0: as in English text */
     uint32_t lmin, lopt_low, lopt_high, lmax_low, lmax; /* lopt and lmax at random too: alike words differ by nothing else */
+    uint32_t space;                                     /* below every length; 0 counts the space at the end of a line */
 } Row;
 
 static const Row rows[] = {
-    {"words of English, 12 a line", 0, 0, 0, 50, 60, 70, 71, 73},
-    {"words of English, 600 a line", 0, 0, 0, 2700, 3000, 3500, 3500, 3600},
-    {"one-unit words, lmax 4095", 0, 1, 1, 1, 1000, 4095, 4095, 4095},
-    {"lengths 1..64, 12 a line", 0, 1, 64, 250, 330, 390, 390, 410},
-    {"lengths 1..4095, lmax 4095", 0, 1, 4095, 1, 2000, 4095, 4095, 4095},
-    {"index, 75 items a page", 1, 1, 20, 600, 0, 0, 880, 920},
-    {"index, limits 0..65535", 1, 1, 64, 0, 0, 0, 65535, 65535},
+    {"words of English, 12 a line", 0, 0, 0, 50, 60, 70, 71, 73, 0},
+    {"words of English, 600 a line", 0, 0, 0, 2700, 3000, 3500, 3500, 3600, 0},
+    {"one-unit words, lmax 4095", 0, 1, 1, 1, 1000, 4095, 4095, 4095, 0},
+    {"lengths 1..64, 12 a line", 0, 1, 64, 250, 330, 390, 390, 410, 0},
+    {"lengths 1..4095, lmax 4095", 0, 1, 4095, 1, 2000, 4095, 4095, 4095, 0},
+    {"index, 75 items a page", 1, 1, 20, 600, 0, 0, 880, 920, 0},
+    {"index, limits 0..65535", 1, 1, 64, 0, 0, 0, 65535, 65535, 0},
+    /* The first row's text and measure. It stands last, so that the rows above have the inputs that they had before it came. */
+    {"words of English, space off", 0, 0, 0, 50, 60, 70, 71, 73, 1},
 };
 
 static const size_t sizes[] = {64, 256, 1024, 4096};
@@ -79,7 +82,7 @@ static void make_inputs(const Row *row, size_t n) {
     for (size_t k = 0; k < WORDS / n; k++) {
         uint32_t lmax = within(row->lmax_low, row->lmax);
         uint32_t lopt = row->paged ? 0 : within(row->lopt_low, row->lopt_high);
-        inputs[k].limits = (HathurmoLimits){row->lmin, lopt < lmax ? lopt : lmax, lmax, within(1, 15)};
+        inputs[k].limits = (HathurmoLimits){row->lmin, lopt < lmax ? lopt : lmax, lmax, within(1, 15), row->space};
         inputs[k].lengths = memory + k * n;
     }
 }

@@ -18,12 +18,17 @@ static HathurmoTold told(uint64_t total) {
     return t;
 }
 
+/* Line(i, j) for i < j: the words i to j-1 less the space after the last of them. */
+static uint32_t line(HathurmoLimits l, const uint32_t *sums, size_t i, size_t j) {
+    return sums[j - 1] - sums[i - 1] - l.space;
+}
+
 /* Best and next of start i, where the lines to the end are not free. */
 static void try_lines(HathurmoLimits l, const uint32_t *sums, size_t n, uint64_t *best, uint32_t *next, size_t i) {
     uint64_t least = NO_SETTING;
     uint32_t chosen = 0;
     for (size_t j = i + 1; j <= n + 1; j++) {
-        uint32_t x = sums[j - 1] - sums[i - 1];
+        uint32_t x = line(l, sums, i, j);
         if (x > l.lmax)
             break;
         if (x < l.lmin || best[j - 1] == NO_SETTING)
@@ -45,7 +50,7 @@ HathurmoTold plain_set_paragraph(HathurmoLimits l, const uint32_t *lengths, size
     best[n] = 0;
     next[n] = 0;
     for (size_t i = n; i >= 1; i--) {
-        if (sums[n] - sums[i - 1] <= l.lopt) {
+        if (line(l, sums, i, n + 1) <= l.lopt) {
             best[i - 1] = 0;
             next[i - 1] = (uint32_t)n + 1;
         } else {

@@ -19,29 +19,32 @@ static HathurmoTold refused(uint32_t number, uint64_t place) {
 /* ---- refusals 1 to 5 ---- */
 
 static int limits_hold(HathurmoLimits l) {
-    return 1 <= l.lmin && l.lmin <= l.lopt && l.lopt <= l.lmax && l.lmax <= 4095 && l.lmin < l.lmax && 1 <= l.a && l.a <= 15;
+    return 1 <= l.lmin && l.lmin <= l.lopt && l.lopt <= l.lmax && l.lmax <= 4095 && l.lmin < l.lmax && 1 <= l.a && l.a <= 15 &&
+           l.space <= 255;
 }
 
 static int page_limits_hold(HathurmoPageLimits l) {
     return l.lmin < l.lmax && l.lmax <= 65535;
 }
 
-/* The first word whose length is 0 or above 4,095, or 0. */
-static size_t first_bad(const uint32_t *lengths, size_t n) {
+/* The first word whose length is not above the space (0 too, then) or above 4,095, or 0. */
+static size_t first_bad(uint32_t space, const uint32_t *lengths, size_t n) {
     for (size_t k = 0; k < n; k++)
-        if (lengths[k] - 1 >= 4095) /* 0 wraps round to the top */
+        if (lengths[k] - space - 1 >= 4095 - space) /* a length not above the space wraps round to the top */
             return k + 1;
     return 0;
 }
 
-static HathurmoTold check(int limits_good, const uint32_t *lengths, size_t n, size_t strips, const size_t *needed, const size_t *lent) {
+/* An index has no space: 0. */
+static HathurmoTold check(int limits_good, uint32_t space, const uint32_t *lengths, size_t n, size_t strips, const size_t *needed,
+                          const size_t *lent) {
     if (n == 0)
         return refused(HATHURMO_EMPTY, 0);
     if (n > 4096)
         return refused(HATHURMO_MANY, 0);
     if (!limits_good)
         return refused(HATHURMO_LIMITS, 0);
-    size_t bad = first_bad(lengths, n);
+    size_t bad = first_bad(space, lengths, n);
     if (bad)
         return refused(HATHURMO_LENGTH, bad);
     for (size_t k = 0; k < strips; k++)
@@ -70,8 +73,19 @@ typedef struct {
     size_t candidate, count;
 } Queue;
 
-static inline uint32_t line(const Queue *q, size_t i, size_t j) {
+/* The words i to j-1 with the space after each. */
+static inline uint32_t apart(const Queue *q, size_t i, size_t j) {
     return q->sums[j - 1] - q->sums[i - 1];
+}
+
+/* Line(i, j) for i < j: less the space after its last word. */
+static inline uint32_t line(const Queue *q, size_t i, size_t j) {
+    return apart(q, i, j) - q->limits.space;
+}
+
+/* Whether Line(i, j) is lmin or more, for i <= j: at j = i there is no space to take off, so it is put on the other side. */
+static inline int reaches(const Queue *q, size_t i, size_t j) {
+    return apart(q, i, j) >= q->limits.lmin + q->limits.space;
 }
 
 /* Inside the measure, so 32 bits hold the product (W-206). */
@@ -88,9 +102,10 @@ static inline void move(Queue *q, uint32_t kind, size_t index) {
     q->moves[q->count++] = 8 * (uint32_t)index + kind;
 }
 
+/* Between two break points the space cancels, so these are plain sums (W-202). */
 static inline int bridged(const Queue *q, size_t j, size_t k, size_t l) {
     HathurmoLimits m = q->limits;
-    uint64_t jk = line(q, j, k), kl = line(q, k, l), jl = line(q, j, l);
+    uint64_t jk = apart(q, j, k), kl = apart(q, k, l), jl = apart(q, j, l);
     uint64_t bj = q->best[j - 1], bk = q->best[k - 1], bl = q->best[l - 1];
     return bk + penalty(m, m.lmax - (uint32_t)kl) >= bj + penalty(m, m.lmax - (uint32_t)jl) &&
            jl * bk >= jk * bl + kl * bj + m.a * jk * jl * kl;
@@ -113,7 +128,7 @@ static inline void add(Queue *q, size_t i) {
 }
 
 static inline void consider(Queue *q, size_t i) {
-    for (; line(q, i, q->candidate) >= q->limits.lmin; q->candidate--) {
+    for (; reaches(q, i, q->candidate); q->candidate--) {
         if (line(q, i, q->candidate) > q->limits.lmax || q->best[q->candidate - 1] == NO_SETTING)
             move(q, HATHURMO_PASS, q->candidate);
         else
@@ -152,7 +167,7 @@ HathurmoTold TWIN_NAME(set_paragraph)(HathurmoLimits limits, const uint32_t *len
                                       size_t queue_len, uint32_t *moves, size_t moves_len, uint32_t *breaks, size_t breaks_len) {
     const size_t needed[] = {n + 1, n + 1, n + 1, n, 2 * n, n};
     const size_t lent[] = {sums_len, best_len, next_len, queue_len, moves_len, breaks_len};
-    HathurmoTold told = check(limits_hold(limits), lengths, n, 6, needed, lent);
+    HathurmoTold told = check(limits_hold(limits), limits.space, lengths, n, 6, needed, lent);
     if (told.number)
         return told;
     fill_sums(lengths, n, sums);
@@ -176,6 +191,7 @@ HathurmoTold TWIN_NAME(set_paragraph)(HathurmoLimits limits, const uint32_t *len
     return told;
 }
 
+/* The length is the line's own: the space is already off. */
 HathurmoTold TWIN_NAME(penalty)(HathurmoLimits limits, uint32_t length) {
     if (!limits_hold(limits))
         return refused(HATHURMO_LIMITS, 0);
@@ -246,7 +262,7 @@ HathurmoTold TWIN_NAME(set_index)(HathurmoPageLimits limits, const uint32_t *len
                                   size_t boundaries_len) {
     const size_t needed[] = {n + 1, n + 2, n + 2, n + 2, n + 2, 2 * n, n};
     const size_t lent[] = {sums_len, best_len, next_len, left_len, right_len, moves_len, boundaries_len};
-    HathurmoTold told = check(page_limits_hold(limits), lengths, n, 7, needed, lent);
+    HathurmoTold told = check(page_limits_hold(limits), 0, lengths, n, 7, needed, lent);
     if (told.number)
         return told;
     fill_sums(lengths, n, sums);
@@ -316,14 +332,16 @@ HathurmoJob TWIN_NAME(read_job)(const uint8_t *bytes, size_t len, uint32_t *leng
     Reader r = {bytes, len, 0, 0};
     HathurmoJob job = job_refused(HATHURMO_SET, 0);
     job.count = number(&r);
-    if (r.cut || (job.count != 4 && job.count != 2))
+    if (r.cut || (job.count != 5 && job.count != 4 && job.count != 2))
         return job_refused(HATHURMO_JOB, 0);
     job.lmin = number(&r);
-    if (job.count == 4)
+    if (job.count != 2)
         job.lopt = number(&r);
     job.lmax = number(&r);
-    if (job.count == 4)
+    if (job.count != 2)
         job.a = number(&r);
+    if (job.count == 5)
+        job.space = number(&r);
     job.n = number(&r);
     if (r.cut)
         return job_refused(HATHURMO_JOB, r.at);

@@ -10,7 +10,8 @@
 enum { N = 4 };
 
 int main(void) {
-    const HathurmoLimits limits = {.lmin = 1, .lopt = 6, .lmax = 6, .a = 1};
+    /* 01 counts the space after a line's last word: space 0. With the width of a space here it is taken off each line. */
+    const HathurmoLimits limits = {.lmin = 1, .lopt = 6, .lmax = 6, .a = 1, .space = 0};
     const uint32_t lengths[N] = {3, 2, 2, 5};
     uint32_t sums[N + 1], next[N + 1], queue[N], moves[2 * N], breaks[N];
     uint64_t best[N + 1];
@@ -24,7 +25,7 @@ int main(void) {
     for (uint64_t k = 0; k < told.lines; k++) {
         uint32_t first = breaks[k], after = next[first - 1];
         /* What a line costs is its start's best less the next start's: this holds for the free last line too. */
-        printf("%u %u %llu\n", (unsigned)first, (unsigned)(sums[after - 1] - sums[first - 1]),
+        printf("%u %u %llu\n", (unsigned)first, (unsigned)(sums[after - 1] - sums[first - 1] - limits.space),
                (unsigned long long)(best[first - 1] - best[after - 1]));
     }
     printf("total %llu\n", (unsigned long long)told.total);

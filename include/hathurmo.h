@@ -24,7 +24,7 @@ enum {
     HATHURMO_EMPTY = 1,  /* n is 0 */
     HATHURMO_MANY = 2,   /* n is above 4,096 */
     HATHURMO_LIMITS = 3, /* the limits break their rules */
-    HATHURMO_LENGTH = 4, /* a length is 0 or above 4,095; place: the first such word or item */
+    HATHURMO_LENGTH = 4, /* a length is 0, above 4,095 or, in a paragraph, not above the space; place: the first such word or item */
     HATHURMO_ROOM = 5,   /* a strip is too short; place: the first such strip's number, from 1, in parameter order */
     HATHURMO_NONE = 6,   /* no admissible setting exists */
     HATHURMO_JOB = 7     /* the job file is malformed; place: byte offset, from 0 */
@@ -47,9 +47,12 @@ enum {
 /* The total that is told of the penalty of a line outside the measure: above every penalty. */
 #define HATHURMO_OUTSIDE UINT64_MAX
 
-/* Limits of a paragraph: 1 <= lmin <= lopt <= lmax <= 4,095, lmin < lmax, a from 1 to 15. */
+/* Limits of a paragraph: 1 <= lmin <= lopt <= lmax <= 4,095, lmin < lmax, a from 1 to 15, space at most 255.
+ *
+ * space is the width of the space after a word. A line is as long as its words together less one such space, for nothing stands
+ * after its last word; that goes for the last line too. Every length must be above it. With 0 the space at the end of a line counts. */
 typedef struct {
-    uint32_t lmin, lopt, lmax, a;
+    uint32_t lmin, lopt, lmax, a, space;
 } HathurmoLimits;
 
 /* Limits of an index: 0 <= lmin < lmax <= 65,535. */
@@ -67,10 +70,10 @@ typedef struct {
     uint64_t moves; /* moves written to the moves strip, at most 2n */
 } HathurmoTold;
 
-/* Breaks a paragraph of n words. A word's length includes the space after it.
+/* Breaks a paragraph of n words. A word's length includes the space after it, that of the last word too.
  *
  * Room needed, in entries:
- *   sums    n+1   sums[k] is the total of the first k lengths
+ *   sums    n+1   sums[k] is the total of the first k lengths, every space included
  *   best    n+1   best[i-1] is the least total of words i to n, HATHURMO_NO_SETTING where there is none; best[n] is 0
  *   next    n+1   next[i-1] is the start after i that gives it, 0 where there is none; next[n] is 0
  *   queue   n     0 afterwards
@@ -102,18 +105,20 @@ HathurmoTold hathurmo_set_index(HathurmoPageLimits limits, const uint32_t *lengt
                                 uint32_t *right, size_t right_len, uint32_t *moves, size_t moves_len,
                                 uint32_t *boundaries, size_t boundaries_len);
 
-/* The penalty a * (length - lopt)^2 of one line as the total. A line shorter than lmin or longer than lmax has none: number and
- * place are 0 and the total is HATHURMO_OUTSIDE. Lines and moves are 0. That a last line of at most lopt costs nothing is not looked at here.
+/* The penalty a * (length - lopt)^2 of one line as the total. The length is the line's own, as limits measure it: the space after its
+ * last word is already off, and the limits' space takes nothing off here. A line shorter than lmin or longer than lmax has no penalty:
+ * number and place are 0 and the total is HATHURMO_OUTSIDE. Lines and moves are 0. That a last line of at most lopt costs nothing is
+ * not looked at here.
  * Refusals: LIMITS; then LENGTH, place 0, where the length is above 16,773,120. */
 HathurmoTold hathurmo_penalty(HathurmoLimits limits, uint32_t length);
 
-/* A job as read. count is 4 for a paragraph, 2 for an index (lopt and a are then 0), and 0 where it is refused; a refused read
- * returns 0 for the limits and n too. */
+/* A job as read. count is the file's first: 5 for a paragraph that gives its space, 4 for one that does not (space is then 0), 2 for an
+ * index (lopt, a and space are then 0). It is 0 where the job is refused; a refused read returns 0 for the limits and n too. */
 typedef struct {
     uint32_t number;
     uint64_t place;
     uint32_t count;
-    uint32_t lmin, lopt, lmax, a;
+    uint32_t lmin, lopt, lmax, a, space;
     uint64_t n; /* lengths written to the lengths strip */
 } HathurmoJob;
 
@@ -121,7 +126,7 @@ typedef struct {
  * nor lengths, which the setters judge: n = 0 is read.
  *
  * Room needed: as many entries as the job has lengths, at most 4,096.
- * Refusals, in file order: JOB at the first byte of an incomplete number; JOB at 0 where the first count is neither 4 nor 2; MANY;
+ * Refusals, in file order: JOB at the first byte of an incomplete number; JOB at 0 where the first count is none of 5, 4 and 2; MANY;
  * ROOM 1; JOB at the first of the bytes left over. A refused read leaves the lengths strip unchanged. */
 HathurmoJob hathurmo_read_job(const uint8_t *job, size_t job_len, uint32_t *lengths, size_t lengths_len);
 

@@ -24,7 +24,7 @@ import random
 import sys
 
 import oracle
-from oracle import Job, Limits, PageLimits, job_of, pack
+from oracle import Job, Limits, PageLimits, job_of, job_of_five, pack
 
 ROOT = pathlib.Path(__file__).resolve().parent.parent
 SEED = 19870
@@ -34,16 +34,22 @@ MOST_BYTES = 60_000
 # ---- the jobs ---------------------------------------------------------------------------------------------------------
 
 def listed_jobs():
-    """01's two listings, as the numbers it prints them for."""
-    return [pack([4, 1, 6, 6, 1, 4, 3, 2, 2, 5]), pack([2, 2, 7, 4, 3, 4, 2, 5])]
+    """01's two listings, as the numbers it prints them for, and one with a space."""
+    return [pack([4, 1, 6, 6, 1, 4, 3, 2, 2, 5]), pack([2, 2, 7, 4, 3, 4, 2, 5]), pack([5, 1, 5, 6, 1, 1, 4, 4, 3, 3, 6])]
 
 
 def marked_jobs():
     return [job_of(limits, lengths) for _, limits, lengths, _, _ in oracle.MARKED]
 
 
+def spaced_jobs():
+    """W-202's worked cases; a space of 0 is written too."""
+    return [job_of_five(limits, lengths) for _, limits, lengths, *_ in oracle.SPACED]
+
+
 def chord_jobs():
-    return [job_of(limits, lengths) for _, limits, lengths, _, _ in oracle.CHORD_ALONE]
+    """Where 01's first error shows, and where the space taken off in the crossing test does."""
+    return [job_of(limits, lengths) for _, limits, lengths, _, _ in oracle.CHORD_ALONE + oracle.SPACE_OFF]
 
 
 def bridged_jobs(r, count):
@@ -69,6 +75,33 @@ def paragraph_edges():
     return [job_of(l, [1, 2]) for l in limits] + [job_of(*case) for case in lengths + order]
 
 
+def space_edges():
+    """The space's own bound and the lengths' bound by it, from both sides; the order of the refusals; a space of 0 written out."""
+    good = Limits(1, 2, 3, 1, 1)
+    spaces = [
+        (good._replace(space=255), [256]), (good._replace(space=256), [257]), (good._replace(space=2**32 - 1), [257]),
+        (good._replace(space=255), [255]), (good._replace(space=255), [256] * 30), (good._replace(space=255), [257, 258, 256]),
+        (Limits(1, 2, 4095, 15, 255), [4095, 256, 4095]),
+    ]
+    lengths = [[1], [2], [2, 3, 1, 0], [2, 0, 1], [2, 4096, 1], [2] * 30 + [1]]
+    order = [
+        (good, []), (Limits(0, 0, 0, 0, 256), []), (good._replace(space=256), [0]), (good._replace(a=16), [1]),
+        (Limits(6, 8, 9, 1, 1), [6, 6, 1]),
+    ]
+    fives = [job_of_five(good._replace(space=0), words) for words in ([1, 2], [0], [1, 4])]
+    return [job_of(*case) for case in spaces + [(good, words) for words in lengths] + order] + fives
+
+
+def spaced_lines():
+    """Lines that end at a limit or one past it once the space is off: single words, a line of 4,095 units, the last line; none too."""
+    words = [(Limits(1, 2, 3, 1, 1), lengths) for lengths in ([3], [4], [5], [5, 2], [2, 5], [2, 2], [2, 2, 2])]
+    widest = [
+        (Limits(1, 4095, 4095, 1, 1), [4000, 96]), (Limits(1, 4095, 4095, 1, 1), [4000, 97]), (Limits(1, 2, 4095, 1, 255), [4095, 511]),
+    ]
+    tight = [(Limits(6, 8, 9, 1, 1), lengths) for lengths in ([5, 5], [6, 6], [7, 9], [7, 10], [7, 11], [6, 7, 9])]
+    return [job_of(*case) for case in words + widest + tight + [(Limits(2, 3, 4, 2, 3), [4, 4, 4, 4, 5, 5])]]
+
+
 def index_edges():
     good = PageLimits(0, 3)
     limits = [
@@ -85,37 +118,41 @@ def index_edges():
 
 
 def cut_jobs():
-    """A paragraph and an index cut at every byte, from none to all but the last."""
-    whole = [job_of(Limits(1, 6, 6, 1), [3, 2, 5]), job_of(PageLimits(2, 7), [3, 4, 2])]
+    """A paragraph without a space, an index and a paragraph with one, cut at every byte, from none to all but the last."""
+    whole = [job_of(Limits(1, 6, 6, 1), [3, 2, 5]), job_of(PageLimits(2, 7), [3, 4, 2]), job_of(Limits(1, 5, 6, 1, 1), [4, 3])]
     return [job[:cut] for job in whole for cut in range(len(job))]
 
 
 def damaged_jobs():
     """Bytes left over, first counts that mean nothing, counts of lengths that the file does not hold."""
-    whole = [job_of(Limits(1, 6, 6, 1), [3, 2, 5]), job_of(PageLimits(2, 7), [3, 4, 2]), job_of(PageLimits(2, 7), [])]
+    whole = [job_of(Limits(1, 6, 6, 1), [3, 2, 5]), job_of(PageLimits(2, 7), [3, 4, 2]), job_of(PageLimits(2, 7), []),
+             job_of(Limits(1, 5, 6, 1, 1), [4, 3]), job_of(Limits(1, 5, 6, 1, 1), [])]
     left_over = [job + bytes([255] * more) for job in whole for more in range(1, 5)]
-    counts = [pack([count, 1, 6, 6, 1, 1, 3]) for count in (0, 1, 3, 5, 2**32 - 1)]
+    counts = [pack([count, 1, 6, 6, 1, 1, 3]) for count in (0, 1, 3, 6, 7, 2**32 - 1)]
     # A first count is told by all four of its bytes, and before anything after it is looked at.
     counts += [pack([0x0104, 1, 6, 6, 1, 1, 3]), pack([0x0400_0000]), pack([3]) + b"\1", pack([2**16 + 2, 0, 7, 1, 3])]
-    many = [pack([4, 1, 6, 6, 1, 4097]), pack([2, 2, 7, 4097]), pack([2, 2, 7, 2**32 - 1]), pack([4, 0, 0, 0, 0, 4097, 1])]
-    missing = [pack([4, 1, 6, 6, 1, 4096]), pack([2, 2, 7, 4096, 1]), pack([2, 2, 7, 4096, 1]) + b"\2\0\0"]
+    counts += [pack([0x0105, 1, 6, 6, 1, 1, 1, 3]), pack([0x0500_0000]), pack([6]) + b"\1"]
+    # The count of one kind before the numbers of another.
+    counts += [pack([5, 1, 6, 6, 1, 1, 3]), pack([5, 1, 6, 6, 1, 0]), pack([4, 1, 6, 6, 1, 1, 1, 3]), pack([5, 1, 6, 6, 1, 1, 0])]
+    many = [pack([4, 1, 6, 6, 1, 4097]), pack([2, 2, 7, 4097]), pack([2, 2, 7, 2**32 - 1]), pack([4, 0, 0, 0, 0, 4097, 1]),
+            pack([5, 1, 6, 6, 1, 1, 4097]), pack([5, 0, 0, 0, 0, 2**32 - 1, 4097, 1])]
+    missing = [pack([4, 1, 6, 6, 1, 4096]), pack([2, 2, 7, 4096, 1]), pack([2, 2, 7, 4096, 1]) + b"\2\0\0", pack([5, 1, 6, 6, 1, 1, 4096])]
     return left_over + counts + many + missing
 
 
 def random_jobs(r, count, most):
-    """Two paragraphs to one index; every ninth is one where the second inequality alone goes wrong."""
+    """Two paragraphs to one index; of every nine one where the second inequality alone goes wrong, and one where the space taken
+    off in the crossing test does."""
     kinds = [oracle.random_paragraph, oracle.random_paragraph, oracle.random_index]
-    picked = []
-    for k in range(count):
-        kind = oracle.random_chord_case if k % 9 == 8 else kinds[k % 3]
-        picked.append(job_of(*kind(r, most)))
-    return picked
+    errors = {8: oracle.random_chord_case, 4: oracle.random_space_off_case}
+    return [job_of(*errors.get(k % 9, kinds[k % 3])(r, most)) for k in range(count)]
 
 
 def short_jobs():
     r = random.Random(SEED)
-    fixed = listed_jobs() + marked_jobs() + chord_jobs() + paragraph_edges() + index_edges() + cut_jobs() + damaged_jobs()
-    return fixed + random_jobs(r, 420, 30) + random_jobs(r, 340, 12)
+    fixed = listed_jobs() + marked_jobs() + spaced_jobs() + chord_jobs() + paragraph_edges() + space_edges() + spaced_lines()
+    fixed += index_edges() + cut_jobs() + damaged_jobs()
+    return fixed + random_jobs(r, 350, 30) + random_jobs(r, 320, 12)
 
 
 def english_lengths(r, n):
@@ -125,32 +162,41 @@ def english_lengths(r, n):
 
 
 def long_jobs():
-    """The largest n; the largest total and the longest listing; the deepest queue; pages of many sizes."""
+    """The longest job, with the longest listing, and one byte more; the largest n of an index; text with and without the space at the
+    end of a line; the deepest queue; pages of many sizes."""
     r = random.Random(SEED + 1)
+    longest = job_of(Limits(1, 1, 4095, 15, 1), [4095] * 4096)
+    text = english_lengths(r, 600)
     return [
-        job_of(Limits(1, 1, 4095, 15), [4095] * 4096),
-        job_of(Limits(40, 66, 72, 3), english_lengths(r, 4096)),
+        longest,
+        longest + b"\0",
         job_of(PageLimits(300, 420), [r.randint(1, 12) for _ in range(4096)]),
-        job_of(Limits(1, 580, 600, 1), [r.randint(1, 2) for _ in range(1300)]),
-        job_of(PageLimits(0, 65535), [r.randint(1, 4095) for _ in range(1300)]),
+        job_of(Limits(40, 66, 72, 3), text),
+        job_of(Limits(40, 66, 72, 3, 1), text),
+        job_of(Limits(1, 580, 600, 1), [r.randint(1, 2) for _ in range(900)]),
+        job_of(PageLimits(0, 65535), [r.randint(1, 4095) for _ in range(550)]),
     ]
 
 
 def traced_jobs():
-    """Every marked row, every second-inequality list, bridged rears, some refusals, lines at the edges of a measure, some dozens at random;
-    n at most 12."""
+    """Every marked row, those with a space, every list where an error shows, bridged rears, some refusals, lines at the edges of a
+    measure, some dozens at random; n at most 12."""
     r = random.Random(SEED + 2)
     refused = [
         job_of(Limits(1, 6, 6, 1), []), job_of(PageLimits(2, 7), []), job_of(Limits(1, 6, 6, 16), [3, 2]),
         job_of(PageLimits(7, 7), [3, 2]), job_of(Limits(1, 6, 6, 1), [3, 0]), job_of(PageLimits(2, 7), [3, 2, 4096]),
         job_of(Limits(9, 9, 10, 1), [8] * 12), job_of(PageLimits(9, 10), [8] * 12),
+        job_of(Limits(1, 6, 6, 1, 256), [257, 300]), job_of(Limits(1, 6, 6, 1, 2), [3, 4, 2, 1]), job_of(Limits(1, 6, 6, 1, 2), []),
+        job_of(Limits(9, 9, 10, 1, 1), [8] * 12), job_of(Limits(1, 2, 3, 1, 255), [256] * 12),
     ]
     asked = [5, 6, 7, 8, 9, 10, 11, 0, 4096, oracle.MOST_ALONE, oracle.MOST_ALONE + 1, 2**32 - 1]
     lines = [job_of(Limits(6, 8, 10, 15), asked), job_of(Limits(6, 8, 6, 1), asked), job_of(Limits(1, 1, 4095, 15), asked[1:] + [4095])]
+    # W-202: a line's length is taken as given; the space counts as a limit only.
+    lines += [job_of(Limits(6, 8, 10, 15, space), asked) for space in (1, 255, 256)]
     # W-206: the greatest products, at either end of a measure, alone and in the rules
     ends = [1, 4095, 4094, 1, 4094, 1, 2, 4093, 2, 4095, 1]
     lines += [job_of(Limits(1, lopt, 4095, a), ends) for lopt in (1, 4095) for a in (1, 15)]
-    return marked_jobs() + chord_jobs() + bridged_jobs(r, 12) + refused + lines + random_jobs(r, 72, 12)
+    return marked_jobs() + spaced_jobs() + chord_jobs() + bridged_jobs(r, 12) + refused + lines + random_jobs(r, 72, 12)
 
 
 # ---- the files --------------------------------------------------------------------------------------------------------

@@ -1,5 +1,5 @@
 #!/usr/bin/env python3
-"""Document 01 in plain Python, written from the paper and never from the engine.
+"""Document 01 in plain Python with what document 02 added to it, written from the papers and never from the engine.
 
 Three renderings of the same answers, so that a slip in one shows against the others:
   by definition  every setting (or boundary sequence) is listed and the least is taken; for short lists only
@@ -7,7 +7,7 @@ Three renderings of the same answers, so that a slip in one shows against the ot
   by the rules   01's queue and pointer rules, word for word; these alone give the moves
 Above them stand the setter with every strip, the penalty asked for alone, the job reader and the listing.
 
-    python3 tests/oracle.py selftest [SEED]    compares the three, and 01's own cases; exit status 1 where they differ
+    python3 tests/oracle.py selftest [SEED]    compares the three, 01's own cases and those with a space; exit status 1 where they differ
     python3 tests/oracle.py listing < JOB      prints the listing of a job
 """
 import itertools
@@ -18,11 +18,13 @@ from collections import namedtuple
 NO_SETTING = 2**64 - 1
 MOST_WORDS = 4096
 MOST_LENGTH = 4095
+MOST_SPACE = 255
 MOST_ALONE = 16_773_120
 EMPTY, MANY, LIMITS, LENGTH, ROOM, NONE, JOB = range(1, 8)
 ADD, PASS, DROP, POP, STEP, JUMP, LINK = range(1, 8)
 
-Limits = namedtuple("Limits", "lmin lopt lmax a")
+# The space is taken off the end of a line (W-202); a paragraph that gives none has 0, and counts it as 01 does.
+Limits = namedtuple("Limits", "lmin lopt lmax a space", defaults=[0])
 PageLimits = namedtuple("PageLimits", "lmin lmax")
 Told = namedtuple("Told", "number place total lines moves")
 # What a rendering says of the starts: for the paragraph entry 0 is start 1, for the index start 0; the end is last.
@@ -39,9 +41,10 @@ def running_sums(lengths):
     return list(itertools.accumulate(lengths, initial=0))
 
 
-def line(lengths, i, j):
-    """Line(i, j): the sum of the lengths of words i to j-1."""
-    return sum(lengths[i - 1:j - 1])
+def line(limits, lengths, i, j):
+    """Line(i, j): the sum of the lengths of words i to j-1 less the space after the last of them; with no word there is none to take."""
+    words = lengths[i - 1:j - 1]
+    return sum(words) - limits.space if words else 0
 
 
 def gap(lengths, a, b):
@@ -71,13 +74,13 @@ def neighbours(points, end):
 
 def admissible(limits, lengths, starts):
     """Every line but the last has lmin <= length <= lmax; the last has length <= lmax."""
-    lines = [line(lengths, i, j) for i, j in neighbours(starts, len(lengths) + 1)]
+    lines = [line(limits, lengths, i, j) for i, j in neighbours(starts, len(lengths) + 1)]
     return all(limits.lmin <= x for x in lines[:-1]) and all(x <= limits.lmax for x in lines)
 
 
 def setting_total(limits, lengths, starts):
     """The penalties of all lines; a last line of length <= lopt costs 0."""
-    lines = [line(lengths, i, j) for i, j in neighbours(starts, len(lengths) + 1)]
+    lines = [line(limits, lengths, i, j) for i, j in neighbours(starts, len(lengths) + 1)]
     last = 0 if lines[-1] <= limits.lopt else penalty(limits, lines[-1])
     return sum(penalty(limits, x) for x in lines[:-1]) + last
 
@@ -93,7 +96,7 @@ def paragraph_start_by_definition(limits, lengths, i):
     if not totals:
         return NO_SETTING, 0
     best = min(totals.values())
-    if line(lengths, i, n + 1) <= limits.lopt:
+    if line(limits, lengths, i, n + 1) <= limits.lopt:
         return best, n + 1
     return best, min(second_point(s, n + 1) for s, total in totals.items() if total == best)
 
@@ -132,7 +135,7 @@ def paragraph_nexts(limits, sums, best, i):
     """(total, j) for each next j of start i that has a setting; `best` is kept by start."""
     end = len(sums)
     for j in range(i + 1, end + 1):
-        x = sums[j - 1] - sums[i - 1]
+        x = sums[j - 1] - sums[i - 1] - limits.space
         if x > limits.lmax:
             return
         last = j == end
@@ -147,7 +150,7 @@ def paragraph_by_table(limits, lengths):
     for i in range(n, 0, -1):
         # The least total, and of equal totals the smallest next: pairs compare in that order.
         best[i], chosen[i] = min(paragraph_nexts(limits, sums, best, i), default=(NO_SETTING, 0))
-        if sums[n] - sums[i - 1] <= limits.lopt:
+        if sums[n] - sums[i - 1] - limits.space <= limits.lopt:
             chosen[i] = n + 1
     return Starts([best[i] for i in range(1, n + 2)], [chosen[i] for i in range(1, n + 2)])
 
@@ -188,19 +191,26 @@ def not_larger_to_the_right(best, n):
 # ---- by the rules: the queue ------------------------------------------------------------------------------------------
 
 class QueueRules:
-    """01's queue rules. best and next are kept by start; the queue's front is first, its rear last."""
+    """01's queue rules. best and next are kept by start; the queue's front is first, its rear last.
 
-    def __init__(self, limits, lengths, chord_alone=False):
+    W-202: a line of the rules is less the space; between two break points the space cancels, so `bridged` takes plain sums."""
+
+    def __init__(self, limits, lengths, chord_alone=False, space_off=False):
         self.limits, self.n = limits, len(lengths)
         self.sums = running_sums(lengths)
         self.chord_alone = chord_alone    # 01's first error: bridging by the second inequality alone
+        self.between = self.line if space_off else self.apart    # the error W-202 warns of: the space taken off in the crossing test
         self.queue, self.moves = [], []
         self.bridges = []    # how many stood at each Pop of a bridged rear, to choose cases by
         self.candidate = self.n + 1
         self.best, self.next = {self.n + 1: 0}, {self.n + 1: 0}
 
-    def line(self, i, j):
+    def apart(self, i, j):
+        """The plain sum of words i to j-1."""
         return self.sums[j - 1] - self.sums[i - 1]
+
+    def line(self, i, j):
+        return self.apart(i, j) - self.limits.space if i < j else 0
 
     def through(self, i, j):
         """F(i, j), also for j = n+1."""
@@ -210,10 +220,10 @@ class QueueRules:
         self.moves.append(8 * index + kind)
 
     def bridged(self, j, k, l):
-        best, line, p, limits = self.best, self.line, penalty, self.limits
-        edge = (best[k] + p(limits, limits.lmax - line(k, l)) >= best[j] + p(limits, limits.lmax - line(j, l)))
-        chord = (line(j, l) * best[k] >= line(j, k) * best[l] + line(k, l) * best[j]
-                 + limits.a * line(j, k) * line(j, l) * line(k, l))
+        best, p, limits = self.best, penalty, self.limits
+        jk, kl, jl = self.between(j, k), self.between(k, l), self.between(j, l)
+        edge = best[k] + p(limits, limits.lmax - kl) >= best[j] + p(limits, limits.lmax - jl)
+        chord = jl * best[k] >= jk * best[l] + kl * best[j] + limits.a * jk * jl * kl
         return chord and (edge or self.chord_alone)
 
     def drop_long(self, i):
@@ -326,7 +336,7 @@ class Refused(Exception):
 
 def paragraph_limits_hold(limits):
     ordered = 1 <= limits.lmin <= limits.lopt <= limits.lmax <= 4095
-    return ordered and limits.lmin < limits.lmax and 1 <= limits.a <= 15
+    return ordered and limits.lmin < limits.lmax and 1 <= limits.a <= 15 and limits.space <= MOST_SPACE
 
 
 def page_limits_hold(limits):
@@ -342,8 +352,8 @@ def index_room(n):
     return [n + 1, n + 2, n + 2, n + 2, n + 2, 2 * n, n]
 
 
-def check(limits_hold, lengths, room, strips):
-    """Refusals 1 to 5 in their order."""
+def check(limits_hold, space, lengths, room, strips):
+    """Refusals 1 to 5 in their order; an index has no space, 0."""
     n = len(lengths)
     if n == 0:
         raise Refused(EMPTY)
@@ -352,7 +362,7 @@ def check(limits_hold, lengths, room, strips):
     if not limits_hold:
         raise Refused(LIMITS)
     for word, length in enumerate(lengths, 1):
-        if not 1 <= length <= MOST_LENGTH:
+        if length == 0 or length > MOST_LENGTH or length <= space:
             raise Refused(LENGTH, word)
     for number, (needed, strip) in enumerate(zip(room(n), strips), 1):
         if len(strip) < needed:
@@ -392,7 +402,7 @@ def finish(fronts, strips, total, answer, moves):
 def set_paragraph(limits, lengths, strips):
     """(told, strips after) for strips in 01's order; what is lent is not changed."""
     try:
-        check(paragraph_limits_hold(limits), lengths, paragraph_room, strips)
+        check(paragraph_limits_hold(limits), limits.space, lengths, paragraph_room, strips)
     except Refused as refused:
         return refused.told, [list(strip) for strip in strips]
     n = len(lengths)
@@ -406,7 +416,7 @@ def set_paragraph(limits, lengths, strips):
 
 def set_index(limits, lengths, strips):
     try:
-        check(page_limits_hold(limits), lengths, index_room, strips)
+        check(page_limits_hold(limits), 0, lengths, index_room, strips)
     except Refused as refused:
         return refused.told, [list(strip) for strip in strips]
     n = len(lengths)
@@ -421,7 +431,9 @@ def set_index(limits, lengths, strips):
 
 
 def penalty_alone(limits, length):
-    """The penalty of one line asked for alone: the total is the penalty, or NO_SETTING where the line is outside the measure."""
+    """The penalty of one line asked for alone: the total is the penalty, or NO_SETTING where the line is outside the measure.
+
+    The length is the line's own, the space already off."""
     if not paragraph_limits_hold(limits):
         return Told(LIMITS, 0, 0, 0, 0)
     if length > MOST_ALONE:
@@ -433,8 +445,9 @@ def penalty_alone(limits, length):
 
 # ---- the job reader ---------------------------------------------------------------------------------------------------
 
-# A job as read: limits is Limits (count 4) or PageLimits (count 2).
+# A job as read: limits is Limits (counts 5 and 4) or PageLimits (count 2).
 Job = namedtuple("Job", "limits lengths")
+LIMITS_OF_COUNT = {5: Limits, 4: Limits, 2: PageLimits}
 
 
 def number_at(job, at):
@@ -451,9 +464,9 @@ def numbers_at(job, at, count):
 def read_job(job, room=MOST_WORDS):
     """The job, read in file order to its end; `room` is the length of the lengths strip. Raises Refused."""
     count = number_at(job, 0)
-    if count not in (4, 2):
+    if count not in LIMITS_OF_COUNT:
         raise Refused(JOB, 0)
-    limits = (Limits if count == 4 else PageLimits)(*numbers_at(job, 4, count))
+    limits = LIMITS_OF_COUNT[count](*numbers_at(job, 4, count))
     at = 4 + 4 * count
     n = number_at(job, at)
     if n > MOST_WORDS:
@@ -472,8 +485,19 @@ def pack(numbers):
     return b"".join(number.to_bytes(4, "little") for number in numbers)
 
 
+def job_numbers(limits, lengths):
+    """The numbers of a job. A paragraph without a space is written by the count 4, which stands for it."""
+    written = limits[:4] if isinstance(limits, Limits) and limits.space == 0 else limits
+    return [len(written), *written, len(lengths), *lengths]
+
+
 def job_of(limits, lengths):
-    return pack([len(limits), *limits, len(lengths), *lengths])
+    return pack(job_numbers(limits, lengths))
+
+
+def job_of_five(limits, lengths):
+    """The job of a paragraph that gives its space, be it 0."""
+    return pack([5, *limits, len(lengths), *lengths])
 
 
 # ---- the listing ------------------------------------------------------------------------------------------------------
@@ -485,7 +509,7 @@ def lent(room, n, more=0, fill=0):
 
 def line_row(limits, lengths, first, after):
     """A line's first word, length and penalty."""
-    x = line(lengths, first, after)
+    x = line(limits, lengths, first, after)
     free = after == len(lengths) + 1 and x <= limits.lopt
     return f"{first} {x} {0 if free else penalty(limits, x)}"
 
@@ -544,7 +568,18 @@ MARKED = [
 
 MARKED_MOVES = {"P1": [41, 43, 33, 25, 35, 28, 17], "G1": [39, 37, 30]}
 
+# W-202, worked on paper: mark, limits, lengths, total, breaks, best, moves. S1 is P1 with its space written.
+SPACED = [
+    ("S1", Limits(1, 6, 6, 1, 0), [3, 2, 2, 5], 13, [1, 2, 4], [13, 4, 16, 0, 0], [41, 43, 33, 25, 35, 28, 17]),
+    ("S2", Limits(1, 5, 6, 1, 1), [4, 3, 3, 6], 4, [1, 2, 4], [4, 0, 9, 0, 0], [41, 43, 33, 25, 35, 28, 17]),
+    ("S3", Limits(1, 1, 2, 1, 1), [2], 0, [1], [0, 0], [17]),
+    ("S4", Limits(2, 4, 6, 1, 1), [4, 3, 3], 2, [1, 2], [2, 1, 0, 0], [33, 25, 35, 28, 17]),
+    ("S5", Limits(6, 8, 10, 1, 2), [4, 4, 3, 5, 5], 1, [1, 4], [1, 4, 4, 0, 0, 0], [49, 51, 41, 43, 33, 25]),
+]
+
 PARAGRAPH_LISTING = "paragraph 4\npenalty 13\nlines 3\n1 3 9\n2 4 4\n4 5 0\nmoves 7\n"
+# S2's: the lines of 4, 3 + 3 and 6 units are 3, 5 and 5 long.
+SPACED_LISTING = "paragraph 4\npenalty 4\nlines 3\n1 3 4\n2 5 0\n4 5 0\nmoves 7\n"
 INDEX_LISTING = "index 4\nkeys 2\nboundaries 1\n3 2\nmoves 3\n"
 
 # Lists where bridging by the second inequality alone goes wrong: name, limits, lengths, least total, the total it gives.
@@ -556,6 +591,17 @@ CHORD_ALONE = [
     ("lmin above 1", Limits(2, 5, 5, 2), [1, 1, 1, 2, 1, 1, 1, 1, 2, 2, 2], 4, 8),
     ("later start", Limits(1, 5, 5, 10), [3, 1, 1, 1, 3, 3], 10, 10),
     ("total 0", Limits(1, 4, 4, 4), [1, 1, 1, 1, 2, 1, 1, 1, 2, 1, 2, 1], 0, 0),
+    ("with a space", Limits(1, 6, 6, 10, 1), [2, 2, 2, 2, 3, 3], 50, 90),
+]
+
+# Lists where the space taken off in the crossing test goes wrong, told in the same way.
+SPACE_OFF = [
+    ("shortest", Limits(1, 3, 9, 1, 1), [2, 2, 2, 3], 1, 4),
+    ("as many moves", Limits(1, 8, 25, 1, 5), [6, 6, 8, 7], 5, 49),
+    ("lmin above 1", Limits(3, 9, 17, 12, 3), [6, 8, 4, 5, 6], 156, 432),
+    ("lopt at lmax", Limits(1, 15, 15, 1, 5), [6, 6, 6, 6, 7, 8], 53, 65),
+    ("a best of a later start", Limits(1, 3, 6, 3, 1), [2, 2, 2, 2, 3], 0, 0),
+    ("a next and no best", Limits(1, 4, 8, 6, 1), [2, 2, 3, 4, 4], 30, 30),
 ]
 
 # Lists where a rear is bridged while just two stand; a rule that waits for a third takes other moves here.
@@ -563,6 +609,7 @@ BRIDGED_OF_TWO = [
     (Limits(2, 6, 6, 11), [3, 1, 1, 3, 3]),
     (Limits(1, 66, 66, 2), [26, 18, 12, 12, 27, 39]),
     (Limits(7, 13, 22, 14), [1, 10, 12, 7, 3, 2, 6, 8]),
+    (Limits(3, 7, 9, 3, 1), [4, 2, 2, 4, 4]),
 ]
 
 
@@ -588,9 +635,20 @@ def random_page_limits(r, widest):
     return PageLimits(r.choice([0, lmax - 1, r.randint(0, lmax - 1), r.randint(0, lmax // 3)]), lmax)
 
 
+def random_space(r):
+    """None as often as not, else a narrow one; now and then the widest."""
+    return r.choice([0, 0, 0, 0, 0, 1, 1, 2, r.randint(1, 9), MOST_SPACE])
+
+
+def spaced(lengths, space):
+    """The lengths with a space after each: all are above it, those of one unit by no more than that."""
+    return [length + space for length in lengths]
+
+
 def random_paragraph(r, most):
     lengths, widest = random_lengths(r, most)
-    return random_limits(r, widest), lengths
+    space = random_space(r)
+    return random_limits(r, widest + space)._replace(space=space), spaced(lengths, space)
 
 
 def random_index(r, most):
@@ -606,11 +664,26 @@ def chord_alone_differs(limits, lengths):
 def random_chord_case(r, most):
     """A paragraph on which the second inequality alone goes wrong."""
     while True:
-        lmax = r.randint(4, 9)
-        limits = Limits(r.randint(1, 2), r.choice([lmax, lmax, lmax - 1]), lmax, r.randint(1, 15))
+        lmax, space = r.randint(4, 9), r.choice([0, 0, 1])
+        limits = Limits(r.randint(1, 2), r.choice([lmax, lmax, lmax - 1]), lmax, r.randint(1, 15), space)
         lengths = [r.randint(1, r.choice([2, 3])) for _ in range(r.randint(5, max(5, most)))]
-        if chord_alone_differs(limits, lengths):
-            return limits, lengths
+        if chord_alone_differs(limits, spaced(lengths, space)):
+            return limits, spaced(lengths, space)
+
+
+def space_off_differs(limits, lengths):
+    """Whether the space taken off in the crossing test gives some start another best or next."""
+    return QueueRules(limits, lengths).run() != QueueRules(limits, lengths, space_off=True).run()
+
+
+def random_space_off_case(r, most):
+    """A paragraph on which the space taken off in the crossing test goes wrong."""
+    while True:
+        lengths, widest = random_lengths(r, most)
+        space = r.choice([1, 1, 2, r.randint(1, 9)])
+        limits = random_limits(r, widest + space)._replace(lmin=1, space=space)
+        if space_off_differs(limits, spaced(lengths, space)):
+            return limits, spaced(lengths, space)
 
 
 def bridges(limits, lengths):
@@ -634,7 +707,7 @@ def greedy_total(limits, lengths):
     """The total where each line is filled as far as it goes (01's second error)."""
     starts = [1]
     for word in range(2, len(lengths) + 1):
-        if line(lengths, starts[-1], word + 1) > limits.lmax:
+        if line(limits, lengths, starts[-1], word + 1) > limits.lmax:
             starts.append(word)
     return setting_total(limits, lengths, tuple(starts))
 
@@ -671,6 +744,38 @@ def test_marked():
     assert greedy_total(*MARKED[0][1:3]) == 17
 
 
+def test_spaced():
+    for mark, limits, lengths, total, breaks, best, moves in SPACED:
+        n = len(lengths)
+        told, strips = set_job(Job(limits, lengths), more=1, fill=7)
+        assert told == (0, 0, total, len(breaks), len(moves)), mark
+        assert strips[0] == running_sums(lengths) + [7], mark
+        assert strips[1] == best + [7], mark
+        assert strips[3] == [0] * n + [7], mark
+        assert strips[4] == over(moves, [7] * (2 * n + 1)), mark
+        assert strips[5] == over(breaks, [7] * (n + 1)), mark
+        compare_paragraph(limits, lengths)
+
+
+def test_space_off():
+    for name, limits, lengths, least, wrong in SPACE_OFF:
+        assert space_off_differs(limits, lengths), name
+        assert QueueRules(limits, lengths, space_off=True).run().best[0] == wrong, name
+        assert paragraph_by_table(limits, lengths).best[0] == least, name
+
+
+def without_space(limits):
+    """The limits of the paragraph that counts the space after a line's last word, and so is the same paragraph."""
+    lmin, lopt, lmax, a, space = limits
+    return Limits(lmin + space, lopt + space, lmax + space, a, 0)
+
+
+def compare_shifted(limits, lengths):
+    """A paragraph with a space, and the one without it whose limits are each raised by it: the same in all that is told and written."""
+    told = same(*(set_job(Job(l, lengths), more=2, fill=7) for l in (limits, without_space(limits))))
+    assert told[0].number in (0, NONE), (limits, lengths)
+
+
 def test_chord_alone():
     for name, limits, lengths, least, wrong in CHORD_ALONE:
         assert chord_alone_differs(limits, lengths), name
@@ -687,6 +792,8 @@ def test_listings():
     assert listing(pack([4, 1, 6, 6, 1, 4, 3, 2, 2, 5])) == PARAGRAPH_LISTING
     assert listing(pack([2, 2, 7, 4, 3, 4, 2, 5])) == INDEX_LISTING
     assert listing(job_of(*MARKED[3][1:3])) == "refused 6 0\n"
+    assert listing(pack([5, 1, 6, 6, 1, 0, 4, 3, 2, 2, 5])) == PARAGRAPH_LISTING
+    assert listing(pack([5, 1, 5, 6, 1, 1, 4, 4, 3, 3, 6])) == SPACED_LISTING
 
 
 def refusal(job_bytes, room=MOST_WORDS):
@@ -697,14 +804,26 @@ def refusal(job_bytes, room=MOST_WORDS):
     return 0, 0
 
 
-def test_reader():
-    whole = job_of(Limits(1, 6, 6, 1), [3, 2, 2, 5])
+def read_damaged(whole):
+    """A job of 4 lengths: cut at every byte, with too short a strip, with bytes left over."""
     for cut in range(len(whole)):
         assert refusal(whole[:cut]) == (JOB, cut // 4 * 4), cut
     assert refusal(whole) == (0, 0) and refusal(whole, 4) == (0, 0)
     assert refusal(whole, 3) == (ROOM, 1) and refusal(whole[:-1], 3) == (ROOM, 1)
     for more in range(1, 5):
         assert refusal(whole + bytes(more)) == (JOB, len(whole))
+
+
+def test_reader():
+    four, five = job_of(Limits(1, 6, 6, 1), [3, 2, 2, 5]), job_of_five(Limits(1, 5, 6, 1, 1), [4, 3, 3, 6])
+    read_damaged(four)
+    read_damaged(five)
+    assert read_job(four) == Job(Limits(1, 6, 6, 1, 0), [3, 2, 2, 5]) == read_job(job_of_five(*read_job(four)))
+    assert read_job(five) == Job(Limits(1, 5, 6, 1, 1), [4, 3, 3, 6]) and five == job_of(*read_job(five))
+    longest = job_of_five(Limits(1, 5, 6, 1, 1), [2] * MOST_WORDS)
+    assert len(longest) == 16_412 and refusal(longest) == (0, 0) and refusal(longest + b"\0") == (JOB, 16_412)
+    for count in (0, 1, 3, 6, 2**32 - 1):
+        assert refusal(pack([count]) + five[4:]) == (JOB, 0)
     assert refusal(pack([3])) == (JOB, 0)
     assert refusal(pack([2, 0, 7, 4097]), 0) == (MANY, 0)
     assert refusal(pack([2, 0, 7, 0]), 0) == (0, 0)
@@ -722,6 +841,11 @@ def test_edges():
     assert number(Limits(1, 2, 4095, 1), [4095]) == 0 and number(Limits(1, 2, 4095, 1), [4096]) == LENGTH
     assert number(Limits(1, 2, 3, 1), [1] * 4096) == 0 and number(Limits(1, 2, 3, 1), [1] * 4097) == MANY
     assert number(Limits(0, 0, 0, 0), []) == EMPTY and number(Limits(0, 0, 0, 0), [0]) == LIMITS
+    assert number(Limits(1, 2, 3, 1, 255), [256]) == 0 and number(Limits(1, 2, 3, 1, 255), [255]) == LENGTH
+    assert number(Limits(1, 2, 3, 1, 256), [257]) == LIMITS and number(Limits(1, 2, 3, 1, 256), [0]) == LIMITS
+    assert number(Limits(1, 2, 3, 1, 1), [2]) == 0 and number(Limits(1, 2, 3, 1, 1), [1]) == LENGTH
+    assert number(Limits(1, 2, 4095, 1, 255), [4095]) == 0 and number(Limits(1, 2, 4095, 1, 255), [4096]) == LENGTH
+    assert listing(job_of(Limits(1, 2, 3, 1, 1), [2, 3, 1, 0])) == "refused 4 3\n"
 
 
 def test_penalty():
@@ -732,13 +856,17 @@ def test_penalty():
         assert penalty_alone(limits, x) == Told(0, 0, NO_SETTING, 0, 0)
     assert penalty_alone(limits, MOST_ALONE + 1) == Told(LENGTH, 0, 0, 0, 0)
     assert penalty_alone(Limits(6, 8, 6, 1), MOST_ALONE + 1) == Told(LIMITS, 0, 0, 0, 0)
+    for space in (1, MOST_SPACE):    # the length is the line's own: nothing is taken off it
+        assert [penalty_alone(limits._replace(space=space), x).total for x in (6, 8, 10)] == [60, 0, 60]
+    assert penalty_alone(limits._replace(space=MOST_SPACE + 1), 8) == Told(LIMITS, 0, 0, 0, 0)
     greatest = 251_412_540  # 15·4,094², below 01's 2^28
     assert penalty_alone(Limits(1, 1, 4095, 15), 4095).total == greatest == penalty_alone(Limits(1, 4095, 4095, 15), 1).total
 
 
 def test_room():
     """Strip after strip one entry too short: ROOM names the first, and nothing is written."""
-    for setter, limits, room in [(set_paragraph, Limits(1, 6, 6, 1), paragraph_room), (set_index, PageLimits(2, 7), index_room)]:
+    paragraphs = [(set_paragraph, limits, paragraph_room) for limits in (Limits(1, 6, 6, 1), Limits(1, 5, 6, 1, 1))]
+    for setter, limits, room in [*paragraphs, (set_index, PageLimits(2, 7), index_room)]:
         for short in range(len(room(4))):
             strips = lent(room, 4, fill=7)
             for later in range(short, len(strips)):
@@ -756,7 +884,26 @@ def test_random(seed, count):
         nones[1] += compare_index(*random_index(r, r.choice([4, 7, 9])))
     for _ in range(count // 100):
         compare_paragraph(*random_chord_case(r, 11))
+        compare_paragraph(*random_space_off_case(r, 9))
     return nones
+
+
+def with_space(draw, r, most):
+    """A case that has a space; without one it would be compared with itself."""
+    while True:
+        limits, lengths = draw(r, most)
+        if limits.space > 0:
+            return limits, lengths
+
+
+def test_shifted(seed, count):
+    """The space against limits raised by it."""
+    r = random.Random(seed)
+    for _ in range(count):
+        compare_shifted(*with_space(random_paragraph, r, 40))
+    for _ in range(count // 10):
+        compare_shifted(*with_space(random_chord_case, r, 20))
+        compare_shifted(*with_space(random_space_off_case, r, 20))
 
 
 def test_longer(seed, count):
@@ -768,14 +915,18 @@ def test_longer(seed, count):
 
 
 def selftest(seed):
-    for test in (test_marked, test_chord_alone, test_bridged_of_two, test_listings, test_reader, test_edges, test_penalty, test_room):
+    for test in (test_marked, test_spaced, test_chord_alone, test_space_off, test_bridged_of_two, test_listings, test_reader, test_edges,
+                 test_penalty, test_room):
         test()
     count, longer = 20_000, 2_000
     nones = test_random(seed, count)
     test_longer(seed + 1, longer)
-    print(f"{len(MARKED)} marked rows, {len(CHORD_ALONE)} lists where the second inequality alone goes wrong, both listings")
+    test_shifted(seed + 2, longer)
+    print(f"{len(MARKED)} marked rows, {len(SPACED)} with a space, all listings; lists where an error shows: {len(CHORD_ALONE)} where the "
+          f"second inequality stands alone, {len(SPACE_OFF)} where the crossing test takes the space off")
     print(f"by definition = by table = by the rules: {count} paragraphs ({nones[0]} with none), "
-          f"{count} indexes ({nones[1]} with none), {count // 100} second-inequality lists")
+          f"{count} indexes ({nones[1]} with none), {count // 100} lists at random of each error")
+    print(f"a space = limits raised by it: {longer + 2 * (longer // 10)} paragraphs, every entry of every strip")
     print(f"by table = by the rules: {longer} longer paragraphs, {longer} longer indexes")
 
 

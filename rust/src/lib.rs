@@ -9,10 +9,23 @@
 //!
 //! let lengths = [3, 2, 2, 5];
 //! let mut room = ParagraphRoom::new(lengths.len());
-//! let limits = Limits { lmin: 1, lopt: 6, lmax: 6, a: 1 };
+//! let limits = Limits { lmin: 1, lopt: 6, lmax: 6, a: 1, space: 0 };
 //! let setting = set_paragraph(limits, &lengths, room.lend()).unwrap();
 //! assert_eq!(setting.total, 13);
 //! assert_eq!(room.breaks[..setting.lines], [1, 2, 4]);
+//! ```
+//!
+//! A word's length includes the space after it. Where that space is given too, a line is measured without the one at its end:
+//!
+//! ```
+//! use hathurmo::{set_paragraph, Limits, ParagraphRoom};
+//!
+//! let lengths = ["set", "in", "good", "type"].map(|word| word.len() as u32 + 1);
+//! let mut room = ParagraphRoom::new(lengths.len());
+//! let limits = Limits { lmin: 6, lopt: 9, lmax: 9, a: 1, space: 1 };
+//! let setting = set_paragraph(limits, &lengths, room.lend()).unwrap();
+//! assert_eq!(room.breaks[..setting.lines], [1, 3]);
+//! assert_eq!(setting.total, 9); // "set in" has 6 of the 9 units, and "good type" all of them
 //! ```
 
 pub mod raw;
@@ -42,7 +55,8 @@ pub enum Refusal {
     Many,
     /// The limits break their rules.
     Limits,
-    /// A length is 0 or above 4,095: the first such word. For a penalty asked for alone the word is 0.
+    /// A length is 0, above 4,095 or, in a paragraph, not above the space: the first such word. For a penalty asked for alone the word
+    /// is 0.
     Length { word: usize },
     /// A strip is too short: the first such strip's number, in the order of its struct's fields.
     Room { strip: usize },
@@ -94,7 +108,7 @@ fn setting(told: raw::Told) -> Result<Setting, Refusal> {
 /// The strips of a paragraph of n words, with the entries each must have at least. More are accepted and never change.
 #[derive(Debug)]
 pub struct ParagraphStrips<'a> {
-    /// n+1; entry k is the total of the first k lengths.
+    /// n+1; entry k is the total of the first k lengths, every space included.
     pub sums: &'a mut [u32],
     /// n+1; entry i-1 is the least total of words i to n, [`NO_SETTING`] where there is none.
     pub best: &'a mut [u64],
@@ -204,7 +218,8 @@ impl IndexRoom {
     }
 }
 
-/// Breaks a paragraph at the least total penalty. A word's length includes the space after it.
+/// Breaks a paragraph at the least total penalty. A word's length includes the space after it, that of the last word too; a line's length
+/// is that of its words less the limits' space, once.
 ///
 /// Every refusal but [`Refusal::None`] leaves every strip as it was; `None` leaves `breaks` so.
 pub fn set_paragraph(limits: Limits, lengths: &[u32], strips: ParagraphStrips<'_>) -> Result<Setting, Refusal> {
@@ -271,12 +286,13 @@ pub enum Penalty {
 }
 
 /// The penalty of one line of a length from 0 to 16,773,120, wherever it stands: that a last line of at most lopt costs nothing is
-/// not looked at here.
+/// not looked at here. The length is the line's own, so the space after its last word is already off; the limits' space is judged with
+/// the other limits and takes nothing off.
 ///
 /// ```
 /// use hathurmo::{penalty, Limits, Penalty};
 ///
-/// let limits = Limits { lmin: 6, lopt: 8, lmax: 10, a: 15 };
+/// let limits = Limits { lmin: 6, lopt: 8, lmax: 10, a: 15, space: 0 };
 /// assert_eq!(penalty(limits, 10), Ok(Penalty::Of(60)));
 /// assert_eq!(penalty(limits, 11), Ok(Penalty::Outside));
 /// ```
@@ -293,7 +309,8 @@ pub enum Job {
     Index { limits: PageLimits, n: usize },
 }
 
-/// Reads a job file to its end and writes its lengths to the front of the strip. Limits and lengths are for the setters to judge.
+/// Reads a job file to its end and writes its lengths to the front of the strip. Limits and lengths are for the setters to judge. The
+/// limits of a paragraph that gives no space (count 4) have space 0.
 ///
 /// A refused read leaves the strip as it was.
 pub fn read_job(job: &[u8], lengths: &mut [u32]) -> Result<Job, Refusal> {
@@ -302,10 +319,10 @@ pub fn read_job(job: &[u8], lengths: &mut [u32]) -> Result<Job, Refusal> {
     if let Some(refusal) = refusal(read.number, read.place, 0) {
         return Err(refusal);
     }
-    let raw::Job { lmin, lopt, lmax, a, n, .. } = read;
+    let raw::Job { lmin, lopt, lmax, a, space, n, .. } = read;
     let n = n as usize;
     Ok(match read.count {
-        4 => Job::Paragraph { limits: Limits { lmin, lopt, lmax, a }, n },
+        5 | 4 => Job::Paragraph { limits: Limits { lmin, lopt, lmax, a, space }, n },
         _ => Job::Index { limits: PageLimits { lmin, lmax }, n },
     })
 }

@@ -1,6 +1,10 @@
 //! The library's C interface as it is; include/hathurmo.h says what each function does. The safe functions are one module up.
 
-/// Limits of a paragraph.
+/// Limits of a paragraph: 1 ≤ lmin ≤ lopt ≤ lmax ≤ 4,095, lmin < lmax, `a` from 1 to 15, `space` up to 255.
+///
+/// Lengths include the space after each word. Give the width of that space, and a line is measured without the one after its last
+/// word: a full line then ends at the measure, and every length must be above the space. With 0 the space at the end of a line counts,
+/// as document 01 has it: where nothing stands between the words, or where the measure leaves room for it.
 #[repr(C)]
 #[derive(Clone, Copy, Debug, PartialEq, Eq)]
 pub struct Limits {
@@ -8,6 +12,7 @@ pub struct Limits {
     pub lopt: u32,
     pub lmax: u32,
     pub a: u32,
+    pub space: u32,
 }
 
 /// Limits of an index.
@@ -32,7 +37,7 @@ pub struct Told {
 /// The total that is told of the penalty of a line outside the measure.
 pub const OUTSIDE: u64 = u64::MAX;
 
-/// A job as read; `count` is 4, 2, or 0 where it is refused.
+/// A job as read; `count` is 5, 4 (`space` is then 0), 2, or 0 where it is refused.
 #[repr(C)]
 #[derive(Clone, Copy, Debug, PartialEq, Eq)]
 pub struct Job {
@@ -43,6 +48,7 @@ pub struct Job {
     pub lopt: u32,
     pub lmax: u32,
     pub a: u32,
+    pub space: u32,
     pub n: u64,
 }
 

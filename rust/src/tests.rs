@@ -1,8 +1,13 @@
-//! The compositor's table, each refusal and every penalty through the safe functions. The rest of the engine is tried in tests/outside.
+//! The compositor's table, W-202's cases, each refusal and every penalty through the safe functions. The rest of the engine is tried in
+//! tests/outside.
 use super::*;
 
 fn limits(lmin: u32, lopt: u32, lmax: u32, a: u32) -> Limits {
-    Limits { lmin, lopt, lmax, a }
+    Limits { lmin, lopt, lmax, a, space: 0 }
+}
+
+fn spaced(lmin: u32, lopt: u32, lmax: u32, a: u32, space: u32) -> Limits {
+    Limits { lmin, lopt, lmax, a, space }
 }
 
 /// Total and breaks of a paragraph.
@@ -33,6 +38,46 @@ fn marked_paragraphs() {
     assert_eq!(broken(limits(6, 8, 10, 1), &[10]), Ok((4, vec![1])));
     assert!(matches!(broken(limits(6, 8, 10, 1), &[11]), Err(Refusal::None { .. })));
     assert_eq!(broken(limits(6, 8, 10, 15), &[10]), Ok((60, vec![1])));
+}
+
+/// W-202's worked cases: limits, lengths, total, breaks, best, moves.
+type Worked = (Limits, &'static [u32], u64, &'static [u32], &'static [u64], &'static [u32]);
+
+#[test]
+fn worked_with_a_space() {
+    let cases: [Worked; 5] = [
+        (spaced(1, 6, 6, 1, 0), &[3, 2, 2, 5], 13, &[1, 2, 4], &[13, 4, 16, 0, 0], &[41, 43, 33, 25, 35, 28, 17]),
+        (spaced(1, 5, 6, 1, 1), &[4, 3, 3, 6], 4, &[1, 2, 4], &[4, 0, 9, 0, 0], &[41, 43, 33, 25, 35, 28, 17]),
+        (spaced(1, 1, 2, 1, 1), &[2], 0, &[1], &[0, 0], &[17]),
+        (spaced(2, 4, 6, 1, 1), &[4, 3, 3], 2, &[1, 2], &[2, 1, 0, 0], &[33, 25, 35, 28, 17]),
+        (spaced(6, 8, 10, 1, 2), &[4, 4, 3, 5, 5], 1, &[1, 4], &[1, 4, 4, 0, 0, 0], &[49, 51, 41, 43, 33, 25]),
+    ];
+    for (limits, lengths, total, breaks, best, moves) in cases {
+        let mut room = ParagraphRoom::new(lengths.len());
+        let setting = set_paragraph(limits, lengths, room.lend()).unwrap();
+        assert_eq!(setting, Setting { total, lines: breaks.len(), moves: moves.len() });
+        assert_eq!(room.breaks[..setting.lines], *breaks);
+        assert_eq!(room.best, best);
+        assert_eq!(room.moves[..setting.moves], *moves);
+    }
+}
+
+/// Between two break points the space cancels: taken off in the crossing test, these would cost 4 and 49.
+#[test]
+fn the_crossing_test_keeps_plain_sums() {
+    assert_eq!(broken(spaced(1, 3, 9, 1, 1), &[2, 2, 2, 3]), Ok((1, vec![1, 3])));
+    assert_eq!(broken(spaced(1, 8, 25, 1, 5), &[6, 6, 8, 7]), Ok((5, vec![1, 3])));
+}
+
+#[test]
+fn spaces_that_are_refused() {
+    assert_eq!(broken(spaced(1, 6, 6, 1, 255), &[256]), Ok((0, vec![1])));
+    assert_eq!(broken(spaced(1, 6, 6, 1, 256), &[257]), Err(Refusal::Limits));
+    assert_eq!(broken(spaced(1, 6, 6, 1, 256), &[0]), Err(Refusal::Limits));
+    assert_eq!(broken(spaced(1, 6, 6, 1, u32::MAX), &[257]), Err(Refusal::Limits));
+    assert_eq!(broken(spaced(1, 6, 6, 1, 2), &[3, 4, 2, 0]), Err(Refusal::Length { word: 3 }));
+    assert_eq!(broken(spaced(1, 6, 6, 1, 255), &[255]), Err(Refusal::Length { word: 1 }));
+    assert!(matches!(broken(spaced(6, 8, 9, 1, 1), &[6, 6]), Err(Refusal::None { .. })));
 }
 
 #[test]
@@ -94,6 +139,11 @@ fn penalties_alone() {
     }
     assert_eq!(penalty(measure, 16_773_121), Err(Refusal::Length { word: 0 }));
     assert_eq!(penalty(limits(6, 8, 6, 1), 16_773_121), Err(Refusal::Limits));
+    for space in [1, 255] {
+        assert_eq!(penalty(spaced(6, 8, 10, 15, space), 10), Ok(Penalty::Of(60)));
+        assert_eq!(penalty(spaced(6, 8, 10, 15, space), 11), Ok(Penalty::Outside));
+    }
+    assert_eq!(penalty(spaced(6, 8, 10, 15, 256), 10), Err(Refusal::Limits));
 }
 
 /// W-206: the product is taken in 32 bits. Every distance above and below lopt, by every weight, against the product in 64 bits.
@@ -108,12 +158,24 @@ fn every_distance_by_every_weight() {
     }
 }
 
+/// Every word a line of its own, as far from lopt as a line may be.
+#[test]
+fn the_greatest_total() {
+    let lengths = [4095; 4096];
+    let mut room = ParagraphRoom::new(lengths.len());
+    let setting = set_paragraph(limits(1, 1, 4095, 15), &lengths, room.lend()).unwrap();
+    assert_eq!(setting.total, 4096 * 15 * 4094 * 4094);
+    assert!(room.breaks.iter().copied().eq(1..=4096));
+}
+
 #[test]
 fn jobs_are_read() {
     let mut lengths = [7; 5];
     let read = read_job(&packed(&[4, 1, 6, 6, 1, 4, 3, 2, 2, 5]), &mut lengths);
     assert_eq!(read, Ok(Job::Paragraph { limits: limits(1, 6, 6, 1), n: 4 }));
     assert_eq!(lengths, [3, 2, 2, 5, 7]);
+    let read = read_job(&packed(&[5, 1, 5, 6, 1, 300, 2, 3, 2]), &mut lengths);
+    assert_eq!(read, Ok(Job::Paragraph { limits: spaced(1, 5, 6, 1, 300), n: 2 }));
     let read = read_job(&packed(&[2, 2, 7, 1, 9]), &mut lengths);
     assert_eq!(read, Ok(Job::Index { limits: PageLimits { lmin: 2, lmax: 7 }, n: 1 }));
     assert_eq!(lengths, [9, 2, 2, 5, 7]);
@@ -125,6 +187,9 @@ fn damaged_jobs_leave_the_strip() {
     let whole = packed(&[2, 2, 7, 2, 3, 4]);
     assert_eq!(read_job(&whole[..23], &mut lengths), Err(Refusal::Job { at: 20 }));
     assert_eq!(read_job(&packed(&[3]), &mut lengths), Err(Refusal::Job { at: 0 }));
+    assert_eq!(read_job(&packed(&[6, 1, 5, 6, 1, 1, 1, 3]), &mut lengths), Err(Refusal::Job { at: 0 }));
+    assert_eq!(read_job(&packed(&[5, 1, 5, 6, 1]), &mut lengths), Err(Refusal::Job { at: 20 }));
+    assert_eq!(read_job(&packed(&[5, 1, 5, 6, 1, 1, 1, 3, 4]), &mut lengths), Err(Refusal::Job { at: 32 }));
     assert_eq!(read_job(&packed(&[2, 2, 7, 2, 3, 4, 5]), &mut lengths), Err(Refusal::Job { at: 24 }));
     assert_eq!(read_job(&packed(&[2, 2, 7, 4097]), &mut lengths), Err(Refusal::Many));
     assert_eq!(read_job(&packed(&[2, 2, 7, 3, 3, 4, 5]), &mut lengths), Err(Refusal::Room { strip: 1 }));

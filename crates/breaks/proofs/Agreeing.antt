@@ -12,15 +12,14 @@ use Rattle.laws.specs.Number.{if, split}
 use Rattle.laws.specs.Cost.{Cost, none, some}
 use Rattle.laws.specs.Members.{Every, every-each}
 use Rattle.paper.specs.declared.Limits.{Limits}
-use Rattle.paper.specs.Allowed.{limitsHold}
-use Rattle.paper.specs.Paragraph.{line, end, best, chosenNext, penalty, lines}
+use Rattle.paper.specs.Paragraph.{line, lineLength, end, best, chosenNext, penalty, lines}
 use Rattle.paper.specs.QueueRules.{Text, Standing, textOf, takenBest, takenNext, atStart, afterStarts, queueAt}
 use Rattle.paper.specs.Applied.{applied, frontApplied}
 use Rattle.paper.specs.Strips.{bestEntry}
 use Rattle.paper_theory.specs.Bound.{paragraph-bound}
 use Rattle.paper_theory.specs.Cheapest.{best-last}
 use Rattle.paper_theory.specs.Ranges.{Ranges, ranges}
-use Rattle.paper_theory.specs.Scale.{upTo-bound, line-scale, line-is}
+use Rattle.paper_theory.specs.Scale.{upTo-bound, line-is, length-scale, length-none}
 use Rattle.queue_theory.specs.Agree.{Agrees, atStart-same, taken-same}
 use Rattle.queue_theory.specs.Paragraph.{scaled, size, start-takes}
 use Rattle.queue_theory.specs.Ready.{Measured, stood-before, stood-after}
@@ -32,7 +31,7 @@ use Rattle.breaks.specs.Asks.{bestAt, Done}
 
 -- the text that the strips hold at start i
 abbrev pub textHeld : Limits → List ℕ → List ℕ → ℕ → Text
-textHeld l S B i = textIn l S B (getD S (i - 1) 0)
+textHeld l S B i = textIn l S B (getD S (i - 1) 0 + l .space)
 
 module _ (l : Limits) (S B : List ℕ) (i : ℕ) (d : Done l S B i) where
   abbrev ws : List ℕ
@@ -42,21 +41,22 @@ module _ (l : Limits) (S B : List ℕ) (i : ℕ) (d : Done l S B i) where
   held-ranges = ranges l (d .holds .passed .limits)
 
   pub held-size : length S ≡ length ws + 1
-  held-size = holds-length (limitsHold l) S (d .holds)
+  held-size = holds-length (d .holds)
 
   pub held-bests : length B ≡ length S
   held-bests = omega (arith, held-size, d .bests .size)
 
   -- a line may begin at every start
-  pub held-place : (k : ℕ) → 1 ≤ k → k ≤ length S → getD S (k - 1) 0 + l .lmax ≤ 2 ^ 25
+  pub held-place : (k : ℕ) → 1 ≤ k → k ≤ length S → getD S (k - 1) 0 + l .space + l .lmax ≤ 2 ^ 25
   held-place k low high =
       omega (
         arith,
-        holds-entry (limitsHold l) S (d .holds) (k - 1) (omega (arith, held-size)),
-        upTo-bound ws (d .holds .passed .lengths) (k - 1) (omega (arith, held-size)),
+        holds-entry (d .holds) (k - 1) (omega (arith, held-size)),
+        upTo-bound (l .space) ws (d .holds .passed .lengths) (k - 1) (omega (arith, held-size)),
         held-size,
         d .holds .passed .few,
         held-ranges .lmax-high,
+        held-ranges .space-high,
       )
 
   best-held : (k : ℕ) → 1 ≤ i → i < k → k ≤ length S → getD B (k - 1) 0 ≡ bestAt l ws k
@@ -86,23 +86,33 @@ module _ (l : Limits) (S B : List ℕ) (i : ℕ) (d : Done l S B i) where
 
     spans : (j k : ℕ) → 1 ≤ j → j ≤ k → k ≤ end ws → span S j k ≡ line ws j k
     spans j k low jk high =
-        let entry = holds-entry (limitsHold l) S (d .holds) in
+        let entry = holds-entry (d .holds) in
         rw (entry (k - 1) (omega arith), entry (j - 1) (omega arith)) (sym (line-is ws j k low jk))
 
     -- a line from the start
     from : ℕ → ℕ → ℕ
-    from a k = if (ltb a k) (getD S (k - 1) 0 - getD S (i - 1) 0) 0
+    from a k = if (ltb a k) (getD S (k - 1) 0 - (getD S (i - 1) 0 + l .space)) 0
 
-    from-start : (k : ℕ) → i ≤ k → k ≤ end ws → from i k ≡ line ws i k
+    reached : (k : ℕ) → i < k → k ≤ end ws → getD S (k - 1) 0 - (getD S (i - 1) 0 + l .space) ≡ lineLength l ws i k
+    reached k ik high =
+        let entry = holds-entry (d .holds) in
+        omega (
+          arith,
+          entry (k - 1) (omega arith),
+          entry (i - 1) (omega arith),
+          length-scale l ws (d .holds .passed .lengths) i k first ik high,
+        )
+
+    from-start : (k : ℕ) → i ≤ k → k ≤ end ws → from i k ≡ lineLength l ws i k
     unfolding from
     from-start k ik high =
         ⊎-elim
-        (λ le. let e : i ≡ k = omega arith in subst (λ (z : ℕ). from i z ≡ line ws i z) e here)
-        (λ lt. rw (lt-ltb i k lt) (spans i k first ik high))
+        (λ le. let e : i ≡ k = omega arith in subst (λ (z : ℕ). from i z ≡ lineLength l ws i z) e here)
+        (λ lt. rw (lt-ltb i k lt) (reached k lt high))
         (split k i)
       where
-        here : from i i ≡ line ws i i
-        here = let e : line ws i i ≡ 0 = omega (arith, line-scale ws i i first (omega arith)) in rw (le-ltb i i (omega arith)) (sym e)
+        here : from i i ≡ lineLength l ws i i
+        here = rw (le-ltb i i (omega arith)) (sym (length-none l ws i first))
 
     agrees : Agrees (textOf l ws) from (span S) (λ k. costOf (getD B (k - 1) 0)) i
     unfolding textOf lines

@@ -1,4 +1,5 @@
--- The starts whose rest is shorter than lmin: no rule moves, and each takes the end at no cost. Assumes nothing but what each law states.
+-- The starts whose rest, less the space, is shorter than lmin: no rule moves, and each takes the end at no cost. Assumes nothing but what
+-- each law states.
 use Prim.Native.Nat.{ℕ, suc, _+_, _-_, _^_, _≤_, _<_}
 use mathlib.Core.Path.{_≡_, ap, sym, _∙_}
 use mathlib.Core.List.{List, [], map}
@@ -8,11 +9,11 @@ use Rattle.laws.specs.Strip.{over, over-nil}
 use Rattle.paper.specs.declared.Limits.{Limits}
 use Rattle.paper.specs.Allowed.{limitsHold}
 use Rattle.paper.specs.Moves.{Taken, code, still, joined}
-use Rattle.paper.specs.Paragraph.{line, end, chosenNext, lines}
+use Rattle.paper.specs.Paragraph.{lineLength, end, chosenNext, lines}
 use Rattle.paper.specs.QueueRules.{Text, Standing, textOf, dropLong, dropWorse, settled, atStart, afterStarts}
 use Rattle.paper.specs.Strips.{bestEntry}
 use Rattle.paper_theory.specs.Ranges.{ranges}
-use Rattle.paper_theory.specs.Scale.{line-is}
+use Rattle.paper_theory.specs.Scale.{length-scale}
 use Rattle.queue_theory.specs.Paragraph.{short-last}
 use Rattle.queue_theory.specs.Turns.{candidates-stop}
 use Rattle.strips.specs.Filling.{Entered, entered-first, entered-more}
@@ -31,7 +32,7 @@ module _ {l : Limits} {S B N : List ℕ} (a : ShortAsks l S B N) where
   ws = wordsOf S
 
   pub short-size : length S ≡ length ws + 1
-  short-size = holds-length (limitsHold l) S (a .holds)
+  short-size = holds-length (a .holds)
 
   ended : (f : ℕ → ℕ) (s : List ℕ) → length s ≡ length S → Entered f 1 (length ws) (length S - 1 + 1) (set s (length S - 1) 0)
   ended f s size =
@@ -51,25 +52,25 @@ module _ {l : Limits} {S B N : List ℕ} {i : ℕ} (b : Begun l S B N i) where
   abbrev words : List ℕ
   words = wordsOf S
 
-  holds : Holds (limitsHold l) S
+  holds : Holds (limitsHold l) (l .space) S
   holds = b .done .holds
 
   pub begun-size : length S ≡ length words + 1
-  begun-size = holds-length (limitsHold l) S holds
+  begun-size = holds-length holds
 
   pub begun-rise : 1 ≤ i → getD S (i - 1) 0 ≤ getD S (length S - 1) 0
-  begun-rise first = holds-rising (limitsHold l) S holds (i - 1) (length S - 1) (omega (arith, begun-size, b .low))
+  begun-rise first = holds-rising holds (i - 1) (length S - 1) (omega (arith, begun-size, b .low))
       (omega (arith, begun-size))
 
-  module _ (first : 1 ≤ i) (short : getD S (length S - 1) 0 - getD S (i - 1) 0 < l .lmin) where
+  module _ (first : 1 ≤ i) (short : getD S (length S - 1) 0 - getD S (i - 1) 0 < l .lmin + l .space) where
     -- the rest as one line
-    rest : line words i (end words) < l .lmin
+    rest : lineLength l words i (end words) < l .lmin
     rest =
         let e : length S - 1 ≡ length words = omega (arith, begun-size) in
-        let entry = holds-entry (limitsHold l) S holds in
+        let entry = holds-entry holds in
         let g : end words - 1 ≡ length words = omega arith in
-        let h = rw g at (line-is words i (end words) first (omega (arith, b .low))) in
-        let s : getD S (length words) 0 - getD S (i - 1) 0 < l .lmin = rw e at short in
+        let h = rw g at (length-scale l words (holds .passed .lengths) i (end words) first (omega (arith, b .low)) (omega arith)) in
+        let s : getD S (length words) 0 - getD S (i - 1) 0 < l .lmin + l .space = rw e at short in
         omega (arith, h, entry (length words) (omega arith), entry (i - 1) (omega (arith, b .low)))
 
     takes : (bestAt l words i ≡ 0) × (chosenNext l words i ≡ length S)

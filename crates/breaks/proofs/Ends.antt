@@ -7,14 +7,15 @@ use lib.ListN.{length}
 use Rattle.laws.specs.Strip.{over}
 use Rattle.paper.specs.declared.Limits.{Limits}
 use Rattle.paper.specs.declared.Move.{Move}
-use Rattle.paper.specs.Allowed.{limitsHold}
 use Rattle.paper.specs.Moves.{code}
 use Rattle.paper.specs.Paragraph.{best, lines}
 use Rattle.paper.specs.QueueRules.{queueMoves}
 use Rattle.paper.specs.Strips.{bestEntry}
 use Rattle.paper_theory.specs.Cheapest.{best-last}
+use Rattle.paper_theory.specs.Ranges.{ranges}
 use Rattle.strips.specs.Filling.{entered-all, entered-whole}
 use Rattle.strips.specs.Words.{wordsOf, holds-length}
+use Rattle.lines.specs.Asks.{Beginning}
 use Rattle.queue.specs.declared.Queue.{Queue}
 use Rattle.breaks.specs.Asks.{soFar, StartsAsk, Starts}
 use Rattle.breaks.proofs.Starting.{Started}
@@ -24,10 +25,16 @@ module _ {l : Limits} {S B N Q m : List ℕ} (a : StartsAsk l S B N Q m) where
   ws = wordsOf S
 
   pub many : length Q ≡ length ws
-  many = omega (arith, a .queue, holds-length (limitsHold l) S (a .holds))
+  many = omega (arith, a .queue, holds-length (a .holds))
 
   pub roomy : 2 * length ws ≤ length m
   roomy = omega (arith, many, a .moves)
+
+  -- the first word's lines begin at the space
+  pub first-begins : Beginning l (l .space)
+  first-begins =
+      let r = ranges l (a .holds .passed .limits) in
+      record { ranges = r; bounded = omega (arith, r .lmax-high, r .space-high) }
 
 -- all starts are done
 pub started-done : {l : Limits} {S m₀ Q B N m : List ℕ} {q : Queue} → Started l S m₀ Q B N m q 0 → Starts l S m₀ (q .moves) B N m

@@ -7,7 +7,6 @@ use lib.ListN.{length, take, drop, replicate, length-replicate}
 use lib.Seq.{drop-at, length-take-le}
 use Rattle.laws.specs.Strip.{over, over-take, over-back}
 use Rattle.paper.specs.declared.Limits.{Limits}
-use Rattle.paper.specs.Allowed.{limitsHold}
 use Rattle.paper.specs.Paragraph.{chosenNext}
 use Rattle.paper.specs.Strips.{sums}
 use Rattle.paper_theory.specs.Entries.{length-entries}
@@ -30,7 +29,7 @@ module _ {l : Limits} {ws S₀ B₀ N₀ Q₀ m₀ S : List ℕ} (a : FillAsks l
       let z = length-sums ws in
       rw exact
       (record {
-        holds = holds-sums (limitsHold l) ws (a .passed);
+        holds = holds-sums (a .passed);
         best = omega arith;
         next = omega arith;
         queue = omega arith;

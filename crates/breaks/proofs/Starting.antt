@@ -22,7 +22,7 @@ use Rattle.strips.specs.Running.{Ran, ran-lent, map-append, length-codes}
 use Rattle.strips.specs.Words.{wordsOf, Holds, holds-length, holds-rising}
 use Rattle.lines.specs.declared.Measure.{Measure}
 use Rattle.lines.specs.Held.{begins, textIn}
-use Rattle.lines.specs.Asks.{Beginning, Placed}
+use Rattle.lines.specs.Asks.{Beginning, Placed, Moving, Moved}
 use Rattle.queue.specs.declared.Queue.{Queue}
 use Rattle.queue.specs.Asks.{start, stood, Queued, StartAsks, StartLeaves}
 use Rattle.queue.specs.Next.{queued-map}
@@ -37,7 +37,7 @@ standsIn Q q = record { queue = listed (stood Q q); candidate = q .candidate }
 -- a member before start i: its line from the start above was at least lmin, and it has a setting
 pub record Waiting (l : Limits) (S B : List ℕ) (i k : ℕ) : Type 0 where
   pub within : k ≤ length S
-  pub reach : getD S i 0 + l .lmin ≤ getD S (k - 1) 0
+  pub reach : getD S i 0 + l .space + l .lmin ≤ getD S (k - 1) 0
   pub number : getD B (k - 1) 0 < 2 ^ 41
 
 -- the starts down to i + 1 are done
@@ -57,11 +57,11 @@ module _ {l : Limits} {S m₀ Q B N m : List ℕ} {q : Queue} {i : ℕ} (s : Sta
   abbrev ws : List ℕ
   ws = wordsOf S
 
-  holds : Holds (limitsHold l) S
+  holds : Holds (limitsHold l) (l .space) S
   holds = s .done .holds
 
   sized : length S ≡ length ws + 1
-  sized = holds-length (limitsHold l) S holds
+  sized = holds-length holds
 
   few-moves : (k : ℕ) → k ≤ length ws → length (soFar l ws k .moves) ≤ 2 * length ws
   few-moves k h = moves-so-far (scaled l ws (holds .passed)) (length ws) (size l ws (holds .passed)) (length ws - k) (omega arith)
@@ -75,23 +75,47 @@ module _ {l : Limits} {S m₀ Q B N m : List ℕ} {q : Queue} {i : ℕ} (s : Sta
   started-room = omega (arith, s .count, few-moves i (s .low))
 
   module _ (first : 1 ≤ i) where
-    pub started-place : Beginning l (getD S (i - 1) 0)
+    pub started-place : Beginning l (getD S (i - 1) 0 + l .space)
     started-place = record {
       ranges = held-ranges l S B i (s .done);
       bounded = held-place l S B i (s .done) i first (omega (arith, sized, s .low));
     }
 
-    module _ (p : Measure) (placed : Placed l p) (begun : begins l p ≡ getD S (i - 1) 0) where
+    -- The measure of the first word's lines, which begin at the space, moved on by the sum before the start: its lines begin a space after
+    -- that.
+    module _ {base : Measure} (given : Placed l base × (begins l base ≡ l .space)) where
+      pub started-moving : Moving base (getD S (i - 1) 0)
+      started-moving =
+          let r = started-place .ranges in
+          record {
+            near = omega (arith, given .0 .near, given .0 .far, r .apart);
+            goal = omega (arith, given .0 .goal, given .0 .far, r .lopt-high);
+            bounded = omega (arith, given .0 .far, given .1, started-place .bounded);
+          }
+
+    module _ {base : Measure} (given : Placed l base × (begins l base ≡ l .space)) (p : Measure)
+        (on : Moved base (getD S (i - 1) 0) p) where
+      begun : begins l p ≡ getD S (i - 1) 0 + l .space
+      begun = omega (arith, on .goal, given .0 .goal, given .1)
+
+      placed : Placed l p
+      placed = record {
+        near = omega (arith, on .near, on .goal, given .0 .near, given .0 .goal);
+        goal = omega (arith, on .goal, given .0 .goal);
+        far = omega (arith, on .far, on .goal, given .0 .far, given .0 .goal);
+        bounded = omega (arith, on .far, given .0 .far, given .1, started-place .bounded);
+      }
+
       -- the line from start i is longer still
       rises : getD S (i - 1) 0 ≤ getD S i 0
-      rises = holds-rising (limitsHold l) S holds (i - 1) i (omega arith) (omega (arith, sized, s .low))
+      rises = holds-rising holds (i - 1) i (omega arith) (omega (arith, sized, s .low))
 
       pub started-asks : StartAsks (start l p S B) i Q q (length (take (length m - q .moves) (drop (q .moves) m)))
       started-asks = record {
         readable = record {
           ranges = held-ranges l S B i (s .done);
           placed = placed;
-          rising = holds-rising (limitsHold l) S holds;
+          rising = holds-rising holds;
           few = omega (arith, s .queue-size, holds .passed .few);
           ends = omega (arith, sized, s .queue-size);
           bests = omega (arith, held-bests l S B i (s .done), sized, s .queue-size);
@@ -197,11 +221,9 @@ module _ {l : Limits} {S m₀ Q B N m : List ℕ} {q : Queue} {i : ℕ} (s : Sta
           takes : (B′ ≡ set B (i - 1) (bestAt l ws i)) × (N′ ≡ set N (i - 1) (chosenNext l ws i))
           takes =
               let q′ : List ℕ = listed (stood Q′ r) in
-              let last : getD S (i - 1) 0 ≤ getD S (length S - 1) 0 =
-              holds-rising (limitsHold l) S holds (i - 1) (length S - 1) (omega (arith, sized, s .low)) (omega (arith, sized)) in
-              let goal : p .goal ≡ getD S (i - 1) 0 + l .lopt = omega (arith, placed .goal, begun) in
+              let goal : p .goal ≡ getD S (i - 1) 0 + l .space + l .lopt = omega (arith, placed .goal, begun) in
               let cost = rw begun at (leaves .cost) in
-              let u = taken-numbers l S B (getD S (i - 1) 0) i (omega (arith, sized, s .low)) last q′ goal cost places in
+              let u = taken-numbers l S B (getD S (i - 1) 0 + l .space) i (omega (arith, sized, s .low)) q′ goal cost places in
               let t = held-takes l S B i (s .done) first (s .low) q′ (ap (λ (z : Standing). z .queue) stands) in
               (w .best ∙ ap (set B (i - 1)) (u .0 ∙ ap bestEntry (t .0)), w .next ∙ ap (set N (i - 1)) (u .1 ∙ t .1))
 

@@ -40,7 +40,7 @@ module _ {Q : List ℕ} {q : Queue} (a : ChooseAsks Q q) where
         record { cost = rw f; next = rw (f, part-front Q (a .standing) (stands-some has)) }
 
 -- ---- the numbers are those of the rules: the line to the end is at most lopt where it ends no later than the goal
-module _ (l : Limits) (E B : List ℕ) (x i : ℕ) (early : i < length E) (reach : x ≤ getD E (length E - 1) 0) (q : List ℕ) where
+module _ (l : Limits) (E B : List ℕ) (x i : ℕ) (early : i < length E) (q : List ℕ) where
   taken : (b : Bool) → leb (getD E (length E - 1) 0) (x + l .lopt) ≡ b →
       (bestEntry (takenBest (textIn l E B x) i q) ≡ if b 0 (bestEntry (frontBest (textIn l E B x) i q)))
       × (takenNext (textIn l E B x) i q ≡ if b (length E) (frontNext q))

@@ -54,11 +54,11 @@ soFar l ws i = afterStarts (textOf l ws) (length ws) (length ws - i)
 
 -- the best strip holds the bests of the starts after i
 pub record Done (l : Limits) (S B : List ℕ) (i : ℕ) : Type 0 where
-  pub holds : Holds (limitsHold l) S
+  pub holds : Holds (limitsHold l) (l .space) S
   pub bests : Entered (bestAt l (wordsOf S)) 1 (length (wordsOf S)) (i + 1) B
 
 pub record ShortAsks (l : Limits) (S B N : List ℕ) : Type 0 where
-  pub holds : Holds (limitsHold l) S
+  pub holds : Holds (limitsHold l) (l .space) S
   pub best : length B ≡ length S
   pub next : length N ≡ length S
 
@@ -70,7 +70,7 @@ pub record Begun (l : Limits) (S B N : List ℕ) (i : ℕ) : Type 0 where
   pub nexts : Entered (Paragraph.chosenNext l (wordsOf S)) 1 (length (wordsOf S)) (i + 1) N
 
 pub record StartsAsk (l : Limits) (S B N Q m : List ℕ) : Type 0 where
-  pub holds : Holds (limitsHold l) S
+  pub holds : Holds (limitsHold l) (l .space) S
   pub best : length B ≡ length S
   pub next : length N ≡ length S
   pub queue : length Q + 1 ≡ length S

@@ -1,6 +1,7 @@
 // The paragraph, on input that nothing refuses. Workshop parts: they ask what their callers meet.
 use lines::Measure;
 use lines::measure_from;
+use lines::moved;
 use paper::Answer;
 use paper::Limits;
 use queue::Queue;
@@ -59,12 +60,12 @@ fn settle(
         (now (best .entry)) (now (next .entry)) (now (best .exit)) (now (next .exit)) ⌝ }
 {
     let chosen = choose(p, last, queue, q);
-    best[i - 1] = chosen.cost;
     next[i - 1] = chosen.next;
+    best[i - 1] = chosen.cost;
 }
 
-// The starts, from n down, whose rest is shorter than lmin: no line is long enough for a rule to move, and the start takes n+1 at no cost.
-// Answers the first that is not one of them.
+// The starts, from n down, whose rest, less the space, is shorter than lmin: no line is long enough for a rule to move, and the start takes
+// n+1 at no cost. Answers the first that is not one of them.
 fn short_starts(l: Limits, sums: &[u32], best: &mut [u64], next: &mut [u32]) -> usize
     requires { ⌜ ShortAsks l (now sums) (now best) (now next) ⌝ }
     ensures { λ r. ⌜ Begun l (now (sums .entry)) (now (best .exit)) (now (next .exit)) r ⌝ }
@@ -74,7 +75,7 @@ fn short_starts(l: Limits, sums: &[u32], best: &mut [u64], next: &mut [u32]) -> 
     next[n] = 0;
     let mut i = n;
     while i > 0 {
-        if l.lmin <= sums[n] - sums[i - 1] {
+        if l.lmin + l.space <= sums[n] - sums[i - 1] {
             break;
         }
         i -= 1;
@@ -85,6 +86,9 @@ fn short_starts(l: Limits, sums: &[u32], best: &mut [u64], next: &mut [u32]) -> 
 }
 
 // All starts, from n down to 1, on strips that are exactly long enough. Answers the number of moves.
+//
+// W-202: "A line's length becomes the sum less one space width": a line ends where its sum does and begins a space later, the first word's
+// at the space.
 fn starts(
     l: Limits,
     sums: &[u32],
@@ -104,10 +108,11 @@ fn starts(
         cost: NONE,
     };
     let last = sums[sums.len() - 1];
+    let first = measure_from(l, l.space);
     let mut i = short_starts(l, sums, best, next);
     while 0 < i {
         let count = q.moves;
-        let p = measure_from(l, sums[i - 1]);
+        let p = moved(first, sums[i - 1]);
         let at = at_start(l, i, p, sums, best, queue, q, &mut moves[count..]);
         settle(i, p, last, queue, at, best, next);
         q = Queue {

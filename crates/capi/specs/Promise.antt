@@ -15,7 +15,7 @@ use Rattle.capi.specs.declared.JobNumbers.{JobNumbers}
 abbrev pub inNumbers : Told → Numbers
 inNumbers t = record { number = t .number; place = t .place; total = t .total; lines = t .lines; moves = t .moves }
 
--- the limits of a paragraph, or those of an index, where lopt and a are 0; what is not asked for is 0 in what is told
+-- the limits of a paragraph, or those of an index, where lopt, a and the space are 0; what is not asked for is 0 in what is told
 abbrev pub inJobNumbers : ToldJob → JobNumbers
 inJobNumbers t = record {
   number = t .number;
@@ -25,6 +25,7 @@ inJobNumbers t = record {
   lopt = t .limits .lopt;
   lmax = t .limits .lmax + t .pages .lmax;
   a = t .limits .a;
+  space = t .limits .space;
   n = t .n;
 }
 

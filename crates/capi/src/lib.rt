@@ -2,6 +2,7 @@
 // and then a length.
 use job::Asked;
 use job::Job;
+use job::JobLimits;
 use job::read;
 use paper::Answer;
 use paper::Limits;
@@ -40,6 +41,7 @@ pub struct JobNumbers {
     pub lopt: u32,
     pub lmax: u32,
     pub a: u32,
+    pub space: u32,
     pub n: u64,
 }
 
@@ -112,7 +114,7 @@ fn tell_job(j: Job) -> JobNumbers
     ensures { λ t. ⌜ t ≡ inJobNumbers (toldJob j) ⌝ }
 {
     match j {
-        Job::Read(asked, n) => tell_asked(asked, n),
+        Job::Read(l, n) => tell_read(l, n),
         Job::Refused(r) => {
             let t = tell_refusal(r);
             JobNumbers {
@@ -123,34 +125,39 @@ fn tell_job(j: Job) -> JobNumbers
                 lopt: 0,
                 lmax: 0,
                 a: 0,
+                space: 0,
                 n: 0,
             }
         }
     }
 }
 
-fn tell_asked(asked: Asked, n: usize) -> JobNumbers
-    ensures { λ t. ⌜ t ≡ inJobNumbers (toldJob (Read asked n)) ⌝ }
+fn tell_read(limits: JobLimits, n: usize) -> JobNumbers
+    ensures { λ t. ⌜ t ≡ inJobNumbers (toldJob (Read limits n)) ⌝ }
 {
+    let count = limits.count;
+    let asked = limits.asked;
     match asked {
         Asked::Paragraph(l) => JobNumbers {
             number: 0,
             place: 0,
-            count: 4,
+            count,
             lmin: l.lmin,
             lopt: l.lopt,
             lmax: l.lmax,
             a: l.a,
+            space: l.space,
             n: n as u64,
         },
         Asked::Index(l) => JobNumbers {
             number: 0,
             place: 0,
-            count: 2,
+            count,
             lmin: l.lmin,
             lopt: 0,
             lmax: l.lmax,
             a: 0,
+            space: 0,
             n: n as u64,
         },
     }

@@ -13,10 +13,10 @@ use Rattle.laws.specs.Outcome.{Promise, Is}
 use Rattle.paper.specs.Allowed.{mostWords}
 use Rattle.paper.specs.declared.Refusal.{Refusal}
 use Rattle.paper.specs.declared.Refusal.the-variants.{Many, Room, Job as Malformed}
-use Rattle.job.specs.declared.Asked.{Asked}
+use Rattle.job.specs.declared.JobLimits.{JobLimits}
 use Rattle.job.specs.declared.Job.the-variants.{Read, Refused}
 use Rattle.job.specs.Reader.{Reading, refuse, accept, readingOutcome, section, toEnd, lengthsFrom, lengthsAfter}
-use Rattle.job.specs.Reader.{announced, askedBy, limitsFrom}
+use Rattle.job.specs.Reader.{announced, askedBy, limitsBy, limitsFrom}
 use Rattle.job.specs.Section.{firstNumbers, SectionIs, section-whole}
 use Rattle.job.proofs.Sections.{cut-refused, whole-written, whole-made}
 
@@ -24,37 +24,37 @@ pub refused : {o : Reading} {r : Refusal} {s t : List ℕ} → o ≡ refuse r �
 unfolding readingOutcome
 refused e f = rw e (record { tells = refl; strips = f })
 
-pub accepted : (s : List ℕ) {o : Reading} {asked : Asked} {ws t : List ℕ} {n : ℕ} → o ≡ accept asked ws → n ≡ length ws → t ≡ over ws s →
-    Promise Is (readingOutcome o s) (Read asked n) t
+pub accepted : (s : List ℕ) {o : Reading} {limits : JobLimits} {ws t : List ℕ} {n : ℕ} → o ≡ accept limits ws → n ≡ length ws →
+    t ≡ over ws s → Promise Is (readingOutcome o s) (Read limits n) t
 unfolding readingOutcome
 accepted s e f g = rw (e, f) (record { tells = refl; strips = g })
 
 -- ---- the lengths
-module _ (job : List ℕ) (room : ℕ) (asked : Asked) (at n : ℕ) where
-  pub lengths-many : mostWords < n → lengthsFrom job room asked at n ≡ refuse Many
+module _ (job : List ℕ) (room : ℕ) (limits : JobLimits) (at n : ℕ) where
+  pub lengths-many : mostWords < n → lengthsFrom job room limits at n ≡ refuse Many
   unfolding lengthsFrom
   lengths-many h = rw (lt-ltb mostWords n h)
 
   module _ (few : n ≤ mostWords) where
-    pub lengths-room : room < n → lengthsFrom job room asked at n ≡ refuse (Room 1)
+    pub lengths-room : room < n → lengthsFrom job room limits at n ≡ refuse (Room 1)
     unfolding lengthsFrom
     lengths-room h = rw (le-ltb mostWords n few, lt-ltb room n h)
 
     module _ (fits : n ≤ room) where
-      taken : lengthsFrom job room asked at n ≡ section job at n (λ ws. toEnd job (at + 4 * n) (accept asked ws))
+      taken : lengthsFrom job room limits at n ≡ section job at n (λ ws. toEnd job (at + 4 * n) (accept limits ws))
       unfolding lengthsFrom
       taken = rw (le-ltb mostWords n few, le-ltb room n fits)
 
-      pub lengths-left : at + 4 * n < length job → lengthsFrom job room asked at n ≡ refuse (Malformed (at + 4 * n))
+      pub lengths-left : at + 4 * n < length job → lengthsFrom job room limits at n ≡ refuse (Malformed (at + 4 * n))
       unfolding toEnd
       lengths-left h = taken ∙ section-whole job at n _ (omega (arith, length-drop at job)) ∙ rw (lt-ltb (at + 4 * n) (length job) h)
 
       module _ {before : List ℕ} {complete : ℕ} {after : List ℕ} (s : SectionIs (drop at job) n before complete after) where
-        pub lengths-cut : complete < n → lengthsFrom job room asked at n ≡ refuse (Malformed (at + 4 * complete))
+        pub lengths-cut : complete < n → lengthsFrom job room limits at n ≡ refuse (Malformed (at + 4 * complete))
         lengths-cut h = taken ∙ cut-refused job at s h _
 
         pub lengths-whole : n ≤ complete → length job ≤ at + 4 * n →
-            lengthsFrom job room asked at n ≡ accept asked (firstNumbers (drop at job) n)
+            lengthsFrom job room limits at n ≡ accept limits (firstNumbers (drop at job) n)
         unfolding toEnd
         lengths-whole h end = taken ∙ whole-made job at s h _ ∙ rw (le-ltb (at + 4 * n) (length job) end)
 
@@ -85,6 +85,6 @@ module _ (job : List ℕ) (room count : ℕ) where
     unfolding limitsFrom
     limits-cut h = rw e (cut-refused job 4 s h _)
 
-    pub limits-whole : count ≤ given → limitsFrom job room count ≡ lengthsAfter job room (4 + 4 * count) (askedBy count after)
+    pub limits-whole : count ≤ given → limitsFrom job room count ≡ lengthsAfter job room (4 + 4 * count) (limitsBy count after)
     unfolding limitsFrom askedBy
     limits-whole h = rw (e, whole-written s h) (whole-made job 4 s h _ ∙ simp (over-zeros (firstNumbers (drop 4 job) count) n))

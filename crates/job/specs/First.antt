@@ -1,4 +1,4 @@
--- A job of more than 16,408 bytes is decided by its first 16,409: no job that is read is longer, and every refusal is told by then. So a
+-- A job of more than 16,412 bytes is decided by its first 16,413: no job that is read is longer, and every refusal is told by then. So a
 -- program may leave the rest of its input out. Assumes nothing but what each law states.
 use Prim.Native.Nat.{ℕ, zero, suc, _+_, _*_, _/_, _≤_, _<_}
 use mathlib.Core.Path.{_≡_, refl, ap, sym, _∙_}
@@ -13,9 +13,9 @@ use lib.Seq.{take-all, getD-take, getD-drop}
 use Rattle.laws.specs.Number.{split, if}
 use Rattle.paper.specs.declared.Refusal.the-variants.{Many, Room}
 use Rattle.paper.specs.Allowed.{mostWords}
-use Rattle.job.specs.declared.Asked.{Asked}
+use Rattle.job.specs.declared.JobLimits.{JobLimits}
 use Rattle.job.specs.Reader.{Reading, refuse, section, counted, toEnd, lengthsFrom, lengthsAfter}
-use Rattle.job.specs.Reader.{announced, askedBy, limitsFrom, reading}
+use Rattle.job.specs.Reader.{announced, limitsBy, limitsFrom, reading}
 use Rattle.job.specs.Section.{firstNumbers, section-whole}
 use Rattle.job.specs.Bounds.{mostLimits, longest, announced-most}
 
@@ -50,10 +50,10 @@ module _ (job : List ℕ) (room m : ℕ) (long : longest < m) (more : m < length
       section-whole (take m job) at n made front ∙ ap made (numbers-first at n h) ∙ same (firstNumbers (drop at job) n)
       ∙ sym (section-whole job at n other whole)
 
-  lengths-first : (asked : Asked) (at n : ℕ) → at ≤ 8 + 4 * mostLimits →
-      lengthsFrom (take m job) room asked at n ≡ lengthsFrom job room asked at n
+  lengths-first : (limits : JobLimits) (at n : ℕ) → at ≤ 8 + 4 * mostLimits →
+      lengthsFrom (take m job) room limits at n ≡ lengthsFrom job room limits at n
   unfolding lengthsFrom toEnd
-  lengths-first asked at n h =
+  lengths-first limits at n h =
       let left = lt-ltb (at + 4 * n) in
       ⊎-elim
       (λ g. ap (λ (r : Reading). if (ltb mostWords n) (refuse Many) (if (ltb room n) (refuse (Room 1)) r))
@@ -62,22 +62,22 @@ module _ (job : List ℕ) (room m : ℕ) (long : longest < m) (more : m < length
       (λ g. rw (lt-ltb mostWords n g))
       (split n mostWords)
 
-  after-first : (at : ℕ) (asked : Asked) → at ≤ 4 + 4 * mostLimits →
-      lengthsAfter (take m job) room at asked ≡ lengthsAfter job room at asked
+  after-first : (at : ℕ) (limits : JobLimits) → at ≤ 4 + 4 * mostLimits →
+      lengthsAfter (take m job) room at limits ≡ lengthsAfter job room at limits
   unfolding lengthsAfter counted
-  after-first at asked h = section-first at 1 _ _ (omega arith) (λ xs. lengths-first asked (at + 4) (getD xs 0 0) (omega arith))
+  after-first at limits h = section-first at 1 _ _ (omega arith) (λ xs. lengths-first limits (at + 4) (getD xs 0 0) (omega arith))
 
   limits-first : (count : ℕ) → limitsFrom (take m job) room count ≡ limitsFrom job room count
   unfolding limitsFrom
   limits-first count =
       if-same (announced count) _ _ _ (λ f. section-first 4 count _ _ (omega (arith, announced-most count f)) (λ l.
-      after-first (4 + 4 * count) (askedBy count l) (omega (arith, announced-most count f))))
+      after-first (4 + 4 * count) (limitsBy count l) (omega (arith, announced-most count f))))
 
   front-first : reading (take m job) room ≡ reading job room
   unfolding reading counted
   front-first = section-first 0 1 _ _ (omega arith) (λ xs. limits-first (getD xs 0 0))
 
--- Any front of more than 16,408 bytes is read as the whole job is.
+-- Any front of more than 16,412 bytes is read as the whole job is.
 pub reading-first : (job : List ℕ) (room m : ℕ) → longest < m → reading (take m job) room ≡ reading job room
 reading-first job room m long =
     ⊎-elim (λ h. ap (λ (j : List ℕ). reading j room) (take-all m job h)) (λ h. front-first job room m long h) (split (length job) m)

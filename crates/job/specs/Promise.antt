@@ -13,6 +13,7 @@ use Rattle.paper.specs.Allowed.{limitsOf, pageLimitsOf}
 use Rattle.paper.specs.Told.{toldRefusal}
 use Rattle.job.specs.declared.Asked.{Asked}
 use Rattle.job.specs.declared.Asked.the-variants.{Paragraph, Index}
+use Rattle.job.specs.declared.JobLimits.{JobLimits}
 use Rattle.job.specs.declared.Job.{Job}
 use Rattle.job.specs.declared.Job.the-variants.{Read, Refused}
 use Rattle.job.specs.Reader.{Reading, refuse, accept, ReadOutcome, readingOutcome}
@@ -37,10 +38,13 @@ noLimits = limitsOf 0 0 0 0
 abbrev pub noPages : PageLimits
 noPages = pageLimitsOf 0 0
 
+abbrev pub toldLimits : ℕ → Asked → ℕ → ToldJob
+toldLimits count (Paragraph l) n = record { number = 0; place = 0; count = count; limits = l; pages = noPages; n = n }
+toldLimits count (Index l) n = record { number = 0; place = 0; count = count; limits = noLimits; pages = l; n = n }
+
 -- "A refused read [..] returns zero for limits and n."
 unfoldable pub toldJob : Job → ToldJob
-toldJob (Read (Paragraph l) n) = record { number = 0; place = 0; count = 4; limits = l; pages = noPages; n = n }
-toldJob (Read (Index l) n) = record { number = 0; place = 0; count = 2; limits = noLimits; pages = l; n = n }
+toldJob (Read l n) = toldLimits (l .count) (l .asked) n
 toldJob (Refused r) =
     record { number = toldRefusal r .number; place = toldRefusal r .place; count = 0; limits = noLimits; pages = noPages; n = 0 }
 
@@ -49,19 +53,19 @@ pub refused-unchanged : (o : Reading) (s : List ℕ) {r : Job} {t : List ℕ} (q
     Promise Is (readingOutcome o s) r t → r ≡ Refused q → t ≡ s
 unfolding readingOutcome
 refused-unchanged (refuse q′) s q p e = p .strips
-refused-unchanged (accept asked ws) s q p e =
+refused-unchanged (accept limits ws) s q p e =
     let z : _≡_ {A = ℕ} 0 1 = cc (p .tells) in
     absurd (omega arith)
 
 -- ---- "An accepted read writes the n lengths and no entry past them."
-pub record ReadInto (o : Reading) (s : List ℕ) (asked : Asked) (n : ℕ) (t : List ℕ) : Type 0 where
+pub record ReadInto (o : Reading) (s : List ℕ) (limits : JobLimits) (n : ℕ) (t : List ℕ) : Type 0 where
   pub lengths : List ℕ
-  pub is : o ≡ accept asked lengths
+  pub is : o ≡ accept limits lengths
   pub count : n ≡ length lengths
   pub written : t ≡ over lengths s
 
-pub accepted-writes : (o : Reading) (s : List ℕ) {r : Job} {t : List ℕ} {asked : Asked} {n : ℕ} →
-    Promise Is (readingOutcome o s) r t → r ≡ Read asked n → ReadInto o s asked n t
+pub accepted-writes : (o : Reading) (s : List ℕ) {r : Job} {t : List ℕ} {limits : JobLimits} {n : ℕ} →
+    Promise Is (readingOutcome o s) r t → r ≡ Read limits n → ReadInto o s limits n t
 unfolding readingOutcome
 accepted-writes (refuse q) s p e =
     let z : _≡_ {A = ℕ} 0 1 = cc (p .tells) in

@@ -9,16 +9,17 @@ use Rattle.laws.specs.Strip.{over}
 use Rattle.laws.specs.Outcome.{Outcome}
 use Rattle.paper.specs.declared.Refusal.{Refusal}
 use Rattle.paper.specs.declared.Refusal.the-variants.{Many, Room, Job as Malformed}
-use Rattle.paper.specs.Allowed.{limitsOf, pageLimitsOf, mostWords}
+use Rattle.paper.specs.Allowed.{spacedLimits, pageLimitsOf, mostWords}
 use Rattle.job.specs.declared.Asked.{Asked}
 use Rattle.job.specs.declared.Asked.the-variants.{Paragraph, Index}
+use Rattle.job.specs.declared.JobLimits.{JobLimits}
 use Rattle.job.specs.declared.Job.{Job}
 use Rattle.job.specs.declared.Job.the-variants.{Read, Refused}
 
--- what a read comes to: a refusal, or what is asked for with the lengths
+-- what a read comes to: a refusal, or the limits with the lengths
 pub data Reading : Type 0 where
   refuse : Refusal → Reading
-  accept : Asked → List ℕ → Reading
+  accept : JobLimits → List ℕ → Reading
 
 -- ---- numbers
 -- "Numbers are 32-bit, low byte first." This is the one whose first byte is byte k of a part of the job.
@@ -49,33 +50,36 @@ unfoldable pub toEnd : List ℕ → ℕ → Reading → Reading
 toEnd job at made = if (ltb at (length job)) (refuse (Malformed at)) made
 
 -- n lengths from the byte `at` on: "n > 4,096 is MANY; a lengths strip shorter than n is ROOM 1"
-unfoldable pub lengthsFrom : List ℕ → ℕ → Asked → ℕ → ℕ → Reading
-lengthsFrom job room asked at n =
+unfoldable pub lengthsFrom : List ℕ → ℕ → JobLimits → ℕ → ℕ → Reading
+lengthsFrom job room limits at n =
     if (ltb mostWords n) (refuse Many)
     (if (ltb room n) (refuse (Room 1))
-    (section job at n (λ ws. toEnd job (at + 4 * n) (accept asked ws))))
+    (section job at n (λ ws. toEnd job (at + 4 * n) (accept limits ws))))
 
 -- the lengths, whose count stands at the byte `at`
-unfoldable pub lengthsAfter : List ℕ → ℕ → ℕ → Asked → Reading
-lengthsAfter job room at asked = counted job at (lengthsFrom job room asked (at + 4))
+unfoldable pub lengthsAfter : List ℕ → ℕ → ℕ → JobLimits → Reading
+lengthsAfter job room at limits = counted job at (lengthsFrom job room limits (at + 4))
 
--- "limits (count 4: lmin, lopt, lmax, A; or count 2: lmin, lmax, meaning an index)"
+-- "limits (count 4: lmin, lopt, lmax, A; or count 2: lmin, lmax, meaning an index)"; W-202: "a job's first count may be 5, the space last"
 unfoldable pub announced : ℕ → Bool
-announced count = eqb count 4 || eqb count 2
+announced count = eqb count 5 || (eqb count 4 || eqb count 2)
 
--- A limit that is not among them is 0.
+-- A limit that is not among them is 0: "Count 4 means space 0."
 unfoldable pub askedBy : ℕ → List ℕ → Asked
 askedBy count l =
     if (eqb count 2)
     (Index (pageLimitsOf (getD l 0 0) (getD l 1 0)))
-    (Paragraph (limitsOf (getD l 0 0) (getD l 1 0) (getD l 2 0) (getD l 3 0)))
+    (Paragraph (spacedLimits (getD l 0 0) (getD l 1 0) (getD l 2 0) (getD l 3 0) (getD l 4 0)))
 
--- "Sections stand in a fixed order, each after its count: limits [..], then lengths." "a first count that is neither 4 nor 2 is
--- JOB at 0"
+abbrev pub limitsBy : ℕ → List ℕ → JobLimits
+limitsBy count l = record { count = count; asked = askedBy count l }
+
+-- "Sections stand in a fixed order, each after its count: limits [..], then lengths." "a first count that is neither 4 nor 2", nor 5,
+-- "is JOB at 0"
 unfoldable pub limitsFrom : List ℕ → ℕ → ℕ → Reading
 limitsFrom job room count =
     if (announced count)
-    (section job 4 count (λ l. lengthsAfter job room (4 + 4 * count) (askedBy count l)))
+    (section job 4 count (λ l. lengthsAfter job room (4 + 4 * count) (limitsBy count l)))
     (refuse (Malformed 0))
 
 -- the whole job, for a lengths strip that has room for so many
@@ -89,7 +93,7 @@ ReadOutcome = Outcome Job (List ℕ)
 -- "A refused read leaves the lengths strip unchanged [..]. An accepted read writes the n lengths and no entry past them."
 unfoldable pub readingOutcome : Reading → List ℕ → ReadOutcome
 readingOutcome (refuse r) s = record { answer = Refused r; strips = s }
-readingOutcome (accept asked ws) s = record { answer = Read asked (length ws); strips = over ws s }
+readingOutcome (accept limits ws) s = record { answer = Read limits (length ws); strips = over ws s }
 
 unfoldable pub readOutcome : List ℕ → List ℕ → ReadOutcome
 readOutcome job s = readingOutcome (reading job (length s)) s

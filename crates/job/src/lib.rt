@@ -15,9 +15,15 @@ pub enum Asked {
     Index(PageLimits),
 }
 
-// The answer of the reader: what is asked for and n, the lengths being in their strip; or a refusal.
+// The limits of a job: their count, and what they ask for. W-202: "Count 4 means space 0." A caller is told the count all the same.
+pub struct JobLimits {
+    pub count: u32,
+    pub asked: Asked,
+}
+
+// The answer of the reader: the limits and n, the lengths being in their strip; or a refusal.
 pub enum Job {
-    Read(Asked, usize),
+    Read(JobLimits, usize),
     Refused(Refusal),
 }
 
@@ -58,10 +64,10 @@ fn section(part: &[u8], n: usize, out: &mut [u32]) -> usize
 }
 
 // The n lengths from byte at on, and then the end of the job.
-fn lengths_from(job: &[u8], asked: Asked, at: usize, count: u32, lengths: &mut [u32]) -> Job
+fn lengths_from(job: &[u8], limits: JobLimits, at: usize, count: u32, lengths: &mut [u32]) -> Job
     requires { ⌜ at ≤ length (now job) ⌝ }
     ensures { λ r. ⌜ Promise Is
-        (readingOutcome (lengthsFrom (now (job .entry)) (length (now (lengths .entry))) asked at count) (now (lengths .entry)))
+        (readingOutcome (lengthsFrom (now (job .entry)) (length (now (lengths .entry))) limits at count) (now (lengths .entry)))
         r (now (lengths .exit)) ⌝ }
 {
     if 4096 < count {
@@ -79,32 +85,35 @@ fn lengths_from(job: &[u8], asked: Asked, at: usize, count: u32, lengths: &mut [
     if complete < n {
         return Job::Refused(Refusal::Job(at + 4 * complete));
     }
-    Job::Read(asked, n)
+    Job::Read(limits, n)
 }
 
 // The lengths, whose count stands at byte at.
-fn lengths_after(job: &[u8], at: usize, asked: Asked, lengths: &mut [u32]) -> Job
+fn lengths_after(job: &[u8], at: usize, limits: JobLimits, lengths: &mut [u32]) -> Job
     requires { ⌜ at ≤ length (now job) ⌝ }
     ensures { λ r. ⌜ Promise Is
-        (readingOutcome (lengthsAfter (now (job .entry)) (length (now (lengths .entry))) at asked) (now (lengths .entry)))
+        (readingOutcome (lengthsAfter (now (job .entry)) (length (now (lengths .entry))) at limits) (now (lengths .entry)))
         r (now (lengths .exit)) ⌝ }
 {
     if job.len() < at + 4 {
         return Job::Refused(Refusal::Job(at));
     }
-    lengths_from(job, asked, at + 4, number(job, at), lengths)
+    lengths_from(job, limits, at + 4, number(job, at), lengths)
 }
 
 // Whether a first count announces limits.
 fn announced(count: u32) -> bool
     ensures { λ r. ⌜ r ≡ announced count ⌝ }
 {
+    if count == 5 {
+        return true;
+    }
     count == 4 || count == 2
 }
 
-// What limits of that count ask for.
+// What limits of that count ask for. One that is not among them is 0.
 fn asked_by(count: u32, l: &[u32]) -> Asked
-    requires { ⌜ 4 ≤ length (now l) ⌝ }
+    requires { ⌜ 5 ≤ length (now l) ⌝ }
     ensures { λ r. ⌜ r ≡ askedBy count (now (l .entry)) ⌝ }
 {
     if count == 2 {
@@ -118,6 +127,7 @@ fn asked_by(count: u32, l: &[u32]) -> Asked
         lopt: l[1],
         lmax: l[2],
         a: l[3],
+        space: l[4],
     })
 }
 
@@ -132,12 +142,16 @@ fn limits_from(job: &[u8], count: u32, lengths: &mut [u32]) -> Job
         return Job::Refused(Refusal::Job(0));
     }
     let n = count as usize;
-    let mut l = [0u32; 4];
+    let mut l = [0u32; 5];
     let given = section(&job[4..], n, &mut l);
     if given < n {
         return Job::Refused(Refusal::Job(4 + 4 * given));
     }
-    lengths_after(job, 4 + 4 * n, asked_by(count, &l), lengths)
+    let limits = JobLimits {
+        count,
+        asked: asked_by(count, &l),
+    };
+    lengths_after(job, 4 + 4 * n, limits, lengths)
 }
 
 // The whole job. A refused read writes nothing.

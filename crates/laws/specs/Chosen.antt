@@ -6,6 +6,7 @@ use mathlib.Core.Logic.{⊎-elim, _↔_}
 use mathlib.Core.Bool.{Bool, true, false, not, _&&_}
 use mathlib.Core.List.{List, [], _∷_}
 use native.Mathlib.Omega.{arith}
+use borrow.Author.Tests.{leb-false}
 use lib.Dec.{T, leb, leb→le, nleb→lt}
 use Rattle.laws.specs.Number.{both}
 use Rattle.laws.specs.Cost.{Cost, none, some, _≼_, leq, leq→≼, ≼→leq, ≼-refl, ≼-antisym, some-inj, Has, before, before-has}
@@ -175,6 +176,21 @@ module _ (p : Problem) (tie : ℕ → Tie) where
 abbrev pub follow : ℕ → (ℕ → ℕ) → ℕ → ℕ → List ℕ
 follow e f zero i = []
 follow e f (suc d) i = elim (leb e (f i)) [ true ↦ [] | false ↦ f i ∷ follow e f d (f i) ]
+
+-- the same nexts before the end are followed alike
+pub follow-alike : (e : ℕ) (f g : ℕ → ℕ) → ((i : ℕ) → i < e → f i ≡ g i) → (d i : ℕ) → i < e → follow e f d i ≡ follow e g d i
+follow-alike e f g same zero i h = refl
+follow-alike e f g same (suc d) i h =
+    subst (λ (j : ℕ). follow e f (suc d) i ≡ step (leb e j) j) (same i h)
+    (go (leb e (f i)) (λ early. follow-alike e f g same d (f i) (leb-false e (f i) early)) refl)
+  where
+    step : Bool → ℕ → List ℕ
+    step past j = elim past [ true ↦ [] | false ↦ j ∷ follow e g d j ]
+
+    go : (past : Bool) → (leb e (f i) ≡ false → follow e f d (f i) ≡ follow e g d (f i)) → leb e (f i) ≡ past →
+        elim past [ true ↦ [] | false ↦ f i ∷ follow e f d (f i) ] ≡ step past (f i)
+    go true rest t = refl
+    go false rest t = ap (λ (js : List ℕ). f i ∷ js) (rest t)
 
 module _ (p : Problem) (tie : ℕ → Tie) (f : ℕ → ℕ)
     (chosen : (i : ℕ) → i < p .end → Has (best p i) → Next p (tie i) i (f i)) where

@@ -1,5 +1,5 @@
 -- What the functions of this crate ask of their callers. Assumes nothing.
-use Prim.Native.Nat.{ℕ, _+_, _*_, _^_, _≤_, _<_}
+use Prim.Native.Nat.{ℕ, _+_, _-_, _*_, _^_, _≤_, _<_}
 use mathlib.Core.Path.{_≡_}
 use mathlib.Core.List.{List}
 use lib.ListN.{length, getD}
@@ -21,12 +21,12 @@ costliest = 2 ^ 41
 abbrev pub Rising : List ℕ → Type 0
 Rising S = (a b : ℕ) → a ≤ b → b < length S → getD S a 0 ≤ getD S b 0
 
--- from start i to break j
-pub record Span (S : List ℕ) (i j : ℕ) : Type 0 where
+-- from start i to break j there is at least the space
+pub record Span (space : ℕ) (S : List ℕ) (i j : ℕ) : Type 0 where
   pub first : 1 ≤ i
   pub order : i ≤ j
   pub inside : j ≤ length S
-  pub rising : Rising S
+  pub above : getD S (i - 1) 0 + space ≤ getD S (j - 1) 0
 
 -- lines may begin at a place
 pub record Beginning (l : Limits) (at : ℕ) : Type 0 where
@@ -39,6 +39,17 @@ pub record Placed (l : Limits) (p : Measure) : Type 0 where
   pub goal : p .goal ≡ begins l p + l .lopt
   pub far : p .far ≡ begins l p + l .lmax
   pub bounded : p .far ≤ farthest
+
+-- one measure moved on to make another
+pub record Moving (p : Measure) (by : ℕ) : Type 0 where
+  pub near : p .near ≤ p .far
+  pub goal : p .goal ≤ p .far
+  pub bounded : p .far + by ≤ farthest
+
+pub record Moved (p : Measure) (by : ℕ) (r : Measure) : Type 0 where
+  pub near : r .near ≡ p .near + by
+  pub goal : r .goal ≡ p .goal + by
+  pub far : r .far ≡ p .far + by
 
 -- index j has an entry
 pub record Indexed (E : List ℕ) (j : ℕ) : Type 0 where

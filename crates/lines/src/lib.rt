@@ -10,7 +10,8 @@ ghost use Rattle.paper_theory.specs.Ranges.{Ranges};
 ghost use Rattle.paper.specs.Lines.{Inside};
 ghost use Rattle.paper.specs.Paragraph.{penalty as formula};
 ghost use Rattle.lines.specs.Held.{span, begins, breakIn, costAt, sideAt, edgeAt, chordOf, chordAt, bridgedAt};
-ghost use Rattle.lines.specs.Asks.{Span, Beginning, Placed, Indexed, Weighing, Curved, Through, Sided, Three, Products};
+ghost use Rattle.lines.specs.Asks.{Span, Beginning, Placed, Moving, Moved, Indexed, Weighing, Curved, Through, Sided};
+ghost use Rattle.lines.specs.Asks.{Three, Products};
 
 // Where a line from a start is inside the measure: it ends at near to far, at best at goal.
 pub struct Measure {
@@ -25,12 +26,12 @@ pub struct Break {
     pub best: u64,
 }
 
-// Line(i, j): the lengths of words i to j-1.
-pub fn line(sums: &[u32], i: usize, j: usize) -> u32
-    requires { ⌜ Span (now sums) i j ⌝ }
-    ensures { λ r. ⌜ r ≡ span (now (sums .entry)) i j ⌝ }
+// The length of the line from i to j: Line(i, j), the lengths of words i to j-1, less the space (W-202).
+pub fn line_length(l: Limits, sums: &[u32], i: usize, j: usize) -> u32
+    requires { ⌜ Span (l .space) (now sums) i j ⌝ }
+    ensures { λ r. ⌜ r ≡ span (now (sums .entry)) i j - l .space ⌝ }
 {
-    sums[j - 1] - sums[i - 1]
+    sums[j - 1] - sums[i - 1] - l.space
 }
 
 // The measure of lines that begin at a place of the ends' scale.
@@ -42,6 +43,18 @@ pub fn measure_from(l: Limits, at: u32) -> Measure
         near: at + l.lmin,
         goal: at + l.lopt,
         far: at + l.lmax,
+    }
+}
+
+// The measure of lines that begin so much later.
+pub fn moved(p: Measure, by: u32) -> Measure
+    requires { ⌜ Moving p by ⌝ }
+    ensures { λ r. ⌜ Moved p by r ⌝ }
+{
+    Measure {
+        near: p.near + by,
+        goal: p.goal + by,
+        far: p.far + by,
     }
 }
 

@@ -26,12 +26,13 @@ use Rattle.refusals.specs.Tells.{Tells}
 use Rattle.refusals.specs.Accepted.{accepted}
 use Rattle.strips.specs.Words.{length-sums}
 use Rattle.job.specs.declared.Asked.{Asked}
+use Rattle.job.specs.declared.JobLimits.{JobLimits}
 use Rattle.job.specs.declared.Job.{Job}
 use Rattle.job.specs.declared.Job.the-variants.{Read, Refused as JobRefused}
 use Rattle.job.specs.Reader as Reader
 use Rattle.job.specs.Reader.{Reading, refuse, accept, reading, readOutcome}
 use Rattle.job.specs.Promise.{accepted-writes}
-use Rattle.listing.specs.Listing.{refused, refusal, holds, least, starts, moveCount}
+use Rattle.listing.specs.Listing.{refused, refusal, holds, spaceIn, least, starts, moveCount}
 use Rattle.listing.specs.Listing.{costListing, checkedListing, askedListing, readingListing, listingOf}
 use Rattle.listing.specs.Asks.{IsSet, Answered}
 use Rattle.listing.specs.Settings.{set-is}
@@ -59,22 +60,22 @@ module _ (job : List ℕ) {r : Job} {t : List ℕ} (p : Promise Is (readOutcome 
     where
       go : (o : Reading) → JobRefused q ≡ Reader.readingOutcome o (replicate 4096 0) .answer → readingListing o ≡ refusal q
       go (refuse q′) f = let z : q ≡ q′ = cc in rw z
-      go (accept asked ws) f = let z : _≡_ {A = ℕ} 0 1 = cc in absurd (omega arith)
+      go (accept limits ws) f = let z : _≡_ {A = ℕ} 0 1 = cc in absurd (omega arith)
 
-  pub read-listed : {asked : Asked} {n : ℕ} → r ≡ Read asked n → listingOf job ≡ askedListing asked (take n t)
+  pub read-listed : {limits : JobLimits} {n : ℕ} → r ≡ Read limits n → listingOf job ≡ askedListing (limits .asked) (take n t)
   unfolding listingOf readOutcome readingListing
-  read-listed {asked} {n} e =
+  read-listed {limits} {n} e =
       let s : List ℕ = replicate 4096 0 in
       let a = accepted-writes (reading job (length s)) s p e in
       ap readingListing
-      (ap (reading job) (sym size) ∙ a .is ∙ ap (accept asked) (sym (front-is (a .lengths) s t n (a .written) (sym (a .count)))))
+      (ap (reading job) (sym size) ∙ a .is ∙ ap (accept limits) (sym (front-is (a .lengths) s t n (a .written) (sym (a .count)))))
 
 -- ---- a setter, which is lent strips that are long enough for every text
 -- where no strip is too short for a text that is not MANY, the checks are those of 1 to 4
-all-long : (hold : Bool) (ws has needs : List ℕ) → (length ws ≤ mostWords → firstShort 1 has needs ≡ 0) →
-    checked hold ws has needs ≡ checked hold ws [] []
+all-long : (hold : Bool) (space : ℕ) (ws has needs : List ℕ) → (length ws ≤ mostWords → firstShort 1 has needs ≡ 0) →
+    checked hold space ws has needs ≡ checked hold space ws [] []
 unfolding checked firstShort
-all-long hold ws has needs room = ⊎-elim (λ h. rw (room h)) (λ h. rw (lt-ltb mostWords (length ws) h)) (split (length ws) mostWords)
+all-long hold space ws has needs room = ⊎-elim (λ h. rw (room h)) (λ h. rw (lt-ltb mostWords (length ws) h)) (split (length ws) mostWords)
 
 -- each strip has what it needs
 abbrev pub ListRoom : List ℕ → List ℕ → Type 0
@@ -90,11 +91,12 @@ roomy k (h ∷ hs) (n ∷ ns) r = when-true (leb n h) _ _ (le-leb n h (r .0)) �
 
 -- the sums and the answer strip, before and after a setting
 module _ (asked : Asked) (ws s p S P : List ℕ) (sums-room : mostWords + 1 ≤ length s) (starts-room : mostWords ≤ length p) where
-  set : (v : ℕ) → checked (holds asked) ws [] [] ≡ Accept → least asked ws ≡ some v → S ≡ over (sums ws) s → P ≡ over (starts asked ws) p →
+  set : (v : ℕ) → checked (holds asked) (spaceIn asked) ws [] [] ≡ Accept → least asked ws ≡ some v → S ≡ over (sums ws) s →
+      P ≡ over (starts asked ws) p →
       IsSet asked ws S P v (length (starts asked ws)) (moveCount asked ws)
   unfolding askedListing checkedListing costListing
   set v pass cost sums-over starts-over =
-      let passed = accepted (holds asked) ws [] [] pass .passed in
+      let passed = accepted (holds asked) (spaceIn asked) ws [] [] pass .passed in
       let is = set-is asked ws passed v cost in
       let n = length-sums ws in
       let sums-are = front-is (sums ws) s S (length ws + 1) sums-over n in
@@ -123,20 +125,21 @@ module _ {Strips : Type 0} (asked : Asked) (ws : List ℕ) (sumsOf startsOf : St
     (starts-over : (v : ℕ) → least asked ws ≡ some v → startsOf (strips Accept) ≡ over (starts asked ws) (startsOf lent))
     (sums-room : mostWords + 1 ≤ length (sumsOf lent)) (starts-room : mostWords ≤ length (startsOf lent))
     (room : length ws ≤ mostWords → ListRoom has needs) where
-  at-cost : checked (holds asked) ws [] [] ≡ Accept → (b : Cost) → least asked ws ≡ b →
+  at-cost : checked (holds asked) (spaceIn asked) ws [] [] ≡ Accept → (b : Cost) → least asked ws ≡ b →
       Answered asked ws (sumsOf (strips Accept)) (startsOf (strips Accept)) (costAnswer b)
   unfolding askedListing checkedListing costListing
   at-cost g none h = rw (none-is, g, h)
   at-cost g (some v) h = rw (some-is v) (set asked ws _ _ _ _ sums-room starts-room v g h (sums-over v h) (starts-over v h))
 
-  at-checked : (c : Checked) → checked (holds asked) ws [] [] ≡ c → Answered asked ws (sumsOf (strips c)) (startsOf (strips c)) (answer c)
+  at-checked : (c : Checked) → checked (holds asked) (spaceIn asked) ws [] [] ≡ c →
+      Answered asked ws (sumsOf (strips c)) (startsOf (strips c)) (answer c)
   unfolding askedListing checkedListing
   at-checked (Refuse r) g = rw (refuses r, g)
   at-checked Accept g = rw accepts (at-cost g (least asked ws) refl)
 
   pub answered : {a : Answer} {t : Strips} →
-      a ≡ answer (checked (holds asked) ws has needs) → t ≡ strips (checked (holds asked) ws has needs) →
+      a ≡ answer (checked (holds asked) (spaceIn asked) ws has needs) → t ≡ strips (checked (holds asked) (spaceIn asked) ws has needs) →
       Answered asked ws (sumsOf t) (startsOf t) a
   answered e f =
-      let long = all-long (holds asked) ws has needs (λ h. roomy 1 has needs (room h)) in
-      rw (e ∙ ap answer long, f ∙ ap strips long) (at-checked (checked (holds asked) ws [] []) refl)
+      let long = all-long (holds asked) (spaceIn asked) ws has needs (λ h. roomy 1 has needs (room h)) in
+      rw (e ∙ ap answer long, f ∙ ap strips long) (at-checked (checked (holds asked) (spaceIn asked) ws [] []) refl)

@@ -1,6 +1,6 @@
 -- A line's length and cost, read from the sums. Assumes nothing but what each law states.
 use Prim.Native.Nat.{ℕ, _+_, _-_, _≤_}
-use mathlib.Core.Path.{_≡_, refl, ap, sym, _∙_}
+use mathlib.Core.Path.{_≡_, refl, ap, _∙_}
 use mathlib.Core.Logic.{_⊎_, inl, inr, ⊎-elim}
 use mathlib.Core.Bool.{Bool, true, false, _&&_}
 use mathlib.Core.List.{List}
@@ -10,14 +10,14 @@ use lib.Dec.{leb, eqb}
 use lib.ListN.{length, getD}
 use Rattle.paper.specs.declared.Limits.{Limits}
 use Rattle.paper.specs.Lines.{Inside}
-use Rattle.paper.specs.Paragraph.{end, line, penalty}
+use Rattle.paper.specs.Paragraph.{end, lineLength, penalty}
 use Rattle.paper_theory.specs.Bound.{charge-is}
 use Rattle.paper_theory.specs.Ranges.{Ranges, ranges}
-use Rattle.paper_theory.specs.Scale.{upTo, upTo-le, line-is}
+use Rattle.paper_theory.specs.Scale.{upTo, length-scale}
 use Rattle.strips.specs.Words.{length-sums, getD-sums}
 use Rattle.lines.specs.Held.{span}
 use Rattle.lines.specs.Asks.{Span}
-use Rattle.listing.specs.Listing.{holds}
+use Rattle.listing.specs.Listing.{holds, spaceIn}
 use Rattle.listing.specs.Asks.{LineAsks, LineIs}
 use Rattle.listing.specs.Settings.{line-low, line-high}
 
@@ -32,24 +32,27 @@ module _ {l : Limits} {ws S : List ℕ} {i j : ℕ} (a : LineAsks l ws S i j) wh
   strip-length : length S ≡ length ws + 1
   strip-length = ap length (a .text .sums) ∙ length-sums ws
 
-  pub line-span : Span S i j
-  line-span =
-      let n = strip-length in
-      record {
-        first = a .segment .first;
-        order = omega (arith, a .segment .order);
-        inside = omega (arith, a .segment .within);
-        rising = λ b c bc cs. omega (arith, held b (omega arith), held c (omega arith), upTo-le ws b c bc);
-      }
-
-  span-is : span S i j ≡ line ws i j
-  span-is =
+  -- on the strip, the line begins a space after its start
+  placed : getD S (i - 1) 0 + l .space + lineLength l ws i j ≡ getD S (j - 1) 0
+  unfolding spaceIn
+  placed =
       let p = a .segment in
       rw (held (j - 1) (omega (arith, p .within)), held (i - 1) (omega (arith, p .within, p .order)))
-      (sym (line-is ws i j (p .first) (omega (arith, p .order))))
+      (length-scale l ws (a .text .passed .lengths) i j (p .first) (p .order) (p .within))
 
-  module _ {x y : ℕ} (ex : x ≡ span S i j) (ey : y ≡ x) where
-    length-is : x ≡ line ws i j
+  pub line-span : Span (l .space) S i j
+  line-span = record {
+    first = a .segment .first;
+    order = omega (arith, a .segment .order);
+    inside = omega (arith, a .segment .within, strip-length);
+    above = omega (arith, placed);
+  }
+
+  span-is : span S i j - l .space ≡ lineLength l ws i j
+  span-is = omega (arith, placed)
+
+  module _ {x y : ℕ} (ex : x ≡ span S i j - l .space) (ey : y ≡ x) where
+    length-is : x ≡ lineLength l ws i j
     length-is = ex ∙ span-is
 
     pub free-is : j ≡ end ws → leb x (l .lopt) ≡ true → LineIs l ws i j (record { length = y; cost = 0 })

@@ -12,7 +12,7 @@ use Rattle.paper.specs.Strips.{paragraphWritten, paragraphSet, paragraphChecked
 use Rattle.paper.specs.Strips.{IndexStrips, indexStrips, indexHas, indexNeeds, indexWritten, indexSet, indexChecked, indexOutcome}
 use Rattle.setter.specs.Promise.{ParagraphPromise, IndexPromise}
 use Rattle.job.specs.declared.Asked.the-variants.{Paragraph as AskedParagraph, Index as AskedIndex}
-use Rattle.listing.specs.Listing.{holds, least, starts, moveCount}
+use Rattle.listing.specs.Listing.{holds, spaceIn, least, starts, moveCount}
 use Rattle.listing.specs.Asks.{Answered}
 use Rattle.listing.proofs.Answers.{answered}
 
@@ -27,7 +27,7 @@ lentParagraph =
 
 pub paragraph-answered : (l : Limits) (ws : List ℕ) {a : Answer} {t : ParagraphStrips} →
     ParagraphPromise (paragraphOutcome l ws lentParagraph) a t → Answered (AskedParagraph l) ws (t .sums) (t .breaks) a
-unfolding holds least starts moveCount paragraphOutcome paragraphChecked paragraphSet paragraphWritten
+unfolding holds spaceIn least starts moveCount paragraphOutcome paragraphChecked paragraphSet paragraphWritten
 paragraph-answered l ws p =
     let o = paragraphChecked l ws lentParagraph in
     answered (AskedParagraph l) ws (λ s. s .sums) (λ s. s .breaks) lentParagraph (paragraphHas lentParagraph) (paragraphNeeds (length ws))
@@ -43,7 +43,7 @@ lentIndex =
 
 pub index-answered : (l : PageLimits) (ws : List ℕ) {a : Answer} {t : IndexStrips} →
     IndexPromise (indexOutcome l ws lentIndex) a t → Answered (AskedIndex l) ws (t .sums) (t .boundaries) a
-unfolding holds least starts moveCount indexOutcome indexChecked indexSet indexWritten
+unfolding holds spaceIn least starts moveCount indexOutcome indexChecked indexSet indexWritten
 index-answered l ws p =
     let o = indexChecked l ws lentIndex in
     answered (AskedIndex l) ws (λ s. s .sums) (λ s. s .boundaries) lentIndex (indexHas lentIndex) (indexNeeds (length ws))

@@ -9,19 +9,19 @@ use Rattle.paper.specs.declared.Limits.{Limits}
 use Rattle.paper.specs.declared.Answer.{Answer}
 use Rattle.paper.specs.declared.Answer.the-variants.{Set, None, Refused}
 use Rattle.paper.specs.Allowed.{Passed}
-use Rattle.paper.specs.Paragraph.{end, line, charge, paragraph}
+use Rattle.paper.specs.Paragraph.{end, lineLength, charge, paragraph}
 use Rattle.paper.specs.Index.{index}
 use Rattle.paper.specs.Strips.{sums}
 use Rattle.job.specs.declared.Asked.{Asked}
 use Rattle.job.specs.declared.Asked.the-variants.{Paragraph as AskedParagraph, Index as AskedIndex}
 use Rattle.rows.specs.Puts.{Fits}
 use Rattle.listing.specs.declared.starts.LineRow.{LineRow}
-use Rattle.listing.specs.Listing.{refused, refusal, holds, head, startRow, startRows, movesRow, setRows, askedListing}
+use Rattle.listing.specs.Listing.{refused, refusal, holds, spaceIn, head, startRow, startRows, movesRow, setRows, askedListing}
 
 -- ---- starts of a setting
 -- a text that refusals 1 to 4 pass, with its sums
 pub record Summed (asked : Asked) (ws S : List ℕ) : Type 0 where
-  pub passed : Passed (holds asked) ws
+  pub passed : Passed (holds asked) (spaceIn asked) ws
   pub sums : S ≡ sums ws
 
 unfoldable pub problem : Asked → List ℕ → Problem
@@ -40,7 +40,7 @@ pub record LineAsks (l : Limits) (ws S : List ℕ) (i j : ℕ) : Type 0 where
   pub segment : Segment (AskedParagraph l) ws i j
 
 pub record LineIs (l : Limits) (ws : List ℕ) (i j : ℕ) (m : LineRow) : Type 0 where
-  pub length : m .length ≡ line ws i j
+  pub length : m .length ≡ lineLength l ws i j
   pub cost : m .cost ≡ charge l ws i j
 
 pub record SegmentAsks (asked : Asked) (ws S : List ℕ) (i j at : ℕ) : Type 0 where

@@ -16,12 +16,13 @@ use Rattle.paper.specs.declared.Checked.the-variants.{Accept, Refuse}
 use Rattle.paper.specs.Allowed.{mostWords}
 use Rattle.paper.specs.Told.{checked}
 use Rattle.job.specs.declared.Asked.{Asked}
+use Rattle.job.specs.declared.JobLimits.{JobLimits}
 use Rattle.job.specs.Reader.{refuse, accept, reading}
 use Rattle.job.specs.Bounds.{longest}
 use Rattle.job.specs.First.{reading-first}
 use Rattle.listing.specs.declared.Listed.{Listed}
 use Rattle.listing.specs.declared.Listed.the-variants.{Written, Short}
-use Rattle.listing.specs.Listing.{refused, refusal, holds, least, starts, moveCount, setRows}
+use Rattle.listing.specs.Listing.{refused, refusal, holds, spaceIn, least, starts, moveCount, setRows}
 use Rattle.listing.specs.Listing.{costListing, checkedListing, askedListing, readingListing, listingOf}
 use Rattle.laws.specs.Outcome.{Promise, Is}
 use Rattle.listing.specs.Promise.{bytesOutcome}
@@ -31,22 +32,25 @@ pub listed-unread : (job : List ℕ) (r : Refusal) → reading job mostWords ≡
 unfolding listingOf readingListing
 listed-unread job r e = rw e
 
--- ---- "A job of any size [..] gets its right answer": more than 16,408 bytes are decided by any longer front.
+-- ---- "A job of any size [..] gets its right answer": more than 16,412 bytes are decided by any longer front.
 pub listing-first : (job : List ℕ) (m : ℕ) → longest < m → listingOf (take m job) ≡ listingOf job
 unfolding listingOf
 listing-first job m long = ap readingListing (reading-first job mostWords m long)
 
 -- ---- a job that is read
-module _ (job : List ℕ) (asked : Asked) (ws : List ℕ) (read : reading job mostWords ≡ accept asked ws) where
-  pub listed-refused : (r : Refusal) → checked (holds asked) ws [] [] ≡ Refuse r → listingOf job ≡ refusal r
+module _ (job : List ℕ) (limits : JobLimits) (ws : List ℕ) (read : reading job mostWords ≡ accept limits ws) where
+  abbrev asked : Asked
+  asked = limits .asked
+
+  pub listed-refused : (r : Refusal) → checked (holds asked) (spaceIn asked) ws [] [] ≡ Refuse r → listingOf job ≡ refusal r
   unfolding listingOf readingListing askedListing checkedListing
   listed-refused r e = rw (read, e)
 
-  pub listed-none : checked (holds asked) ws [] [] ≡ Accept → least asked ws ≡ none → listingOf job ≡ refused 6 0
+  pub listed-none : checked (holds asked) (spaceIn asked) ws [] [] ≡ Accept → least asked ws ≡ none → listingOf job ≡ refused 6 0
   unfolding listingOf readingListing askedListing checkedListing costListing
   listed-none e f = rw (read, e, f)
 
-  pub listed-set : checked (holds asked) ws [] [] ≡ Accept → (total : ℕ) → least asked ws ≡ some total →
+  pub listed-set : checked (holds asked) (spaceIn asked) ws [] [] ≡ Accept → (total : ℕ) → least asked ws ≡ some total →
       listingOf job ≡ setRows asked ws (starts asked ws) total (moveCount asked ws)
   unfolding listingOf readingListing askedListing checkedListing costListing
   listed-set e total f = rw (read, e, f)

@@ -9,7 +9,7 @@ use Rattle.paper.specs.declared.Checked.{Checked}
 use Rattle.paper.specs.declared.Checked.the-variants.{Accept, Refuse}
 use Rattle.paper.specs.Allowed.{mostWords, limitsHold, pageLimitsHold}
 use Rattle.paper.specs.Paragraph as Paragraph
-use Rattle.paper.specs.Paragraph.{end, line, charge}
+use Rattle.paper.specs.Paragraph.{end, lineLength, charge}
 use Rattle.paper.specs.Index as Index
 use Rattle.paper.specs.Index.{item}
 use Rattle.paper.specs.Told.{toldRefusal, checked}
@@ -27,10 +27,15 @@ refused number place = row (ascii "refused") (number ∷ place ∷ [])
 unfoldable pub refusal : Refusal → List ℕ
 refusal r = refused (toldRefusal r .number) (toldRefusal r .place)
 
--- ---- of a paragraph and of an index: whether the limits hold, the least total, the breaks or boundaries, and how many moves are taken
+-- ---- of a paragraph and of an index: whether the limits hold, the space, the least total, the breaks or boundaries, and how many moves
+-- are taken
 unfoldable pub holds : Asked → Bool
 holds (AskedParagraph l) = limitsHold l
 holds (AskedIndex l) = pageLimitsHold l
+
+unfoldable pub spaceIn : Asked → ℕ
+spaceIn (AskedParagraph l) = l .space
+spaceIn (AskedIndex l) = 0
 
 unfoldable pub least : Asked → List ℕ → Cost
 least (AskedParagraph l) ws = Paragraph.best l ws 1
@@ -53,9 +58,9 @@ head (AskedParagraph l) n total count = headed (ascii "paragraph") n (ascii "pen
 head (AskedIndex l) n total count = headed (ascii "index") n (ascii "keys") total (ascii "boundaries") count
 
 -- "for each line its first word, length and penalty"; "Each boundary line has its index and its length." This is what follows a start's
--- index i, where the next start is j.
+-- index i, where the next start is j. W-202: "A line's length becomes the sum less one space width".
 unfoldable pub values : Asked → List ℕ → ℕ → ℕ → List ℕ
-values (AskedParagraph l) ws i j = line ws i j ∷ charge l ws i j ∷ []
+values (AskedParagraph l) ws i j = lineLength l ws i j ∷ charge l ws i j ∷ []
 values (AskedIndex l) ws i j = item ws i ∷ []
 
 abbrev pub startRow : Asked → List ℕ → ℕ → ℕ → List ℕ
@@ -83,12 +88,12 @@ checkedListing asked ws Accept = costListing asked ws (least asked ws)
 
 -- No strip is too short: refusals 1 to 4, and then NONE or the setting.
 unfoldable pub askedListing : Asked → List ℕ → List ℕ
-askedListing asked ws = checkedListing asked ws (checked (holds asked) ws [] [])
+askedListing asked ws = checkedListing asked ws (checked (holds asked) (spaceIn asked) ws [] [])
 
 -- ---- the job: "A job is read to its end before anything is set." Its lengths have room.
 unfoldable pub readingListing : Reading → List ℕ
 readingListing (refuse r) = refusal r
-readingListing (accept asked ws) = askedListing asked ws
+readingListing (accept limits ws) = askedListing (limits .asked) ws
 
 unfoldable pub listingOf : List ℕ → List ℕ
 listingOf job = readingListing (reading job mostWords)

@@ -12,7 +12,7 @@ use Rattle.laws.specs.Setting.{Problem, Choice, Admissible}
 use Rattle.paper.specs.declared.Limits.{Limits}
 use Rattle.paper.specs.Allowed.{Passed}
 use Rattle.paper.specs.Lines.{settings}
-use Rattle.paper.specs.Paragraph.{end, line, charge, lines, paragraph}
+use Rattle.paper.specs.Paragraph.{end, lineLength, charge, lines, paragraph}
 use Rattle.paper.specs.Index.{item, index, boundaries}
 use Rattle.paper_theory.specs.Ranges.{ranges}
 use Rattle.paper_theory.specs.Scale.{length-holds}
@@ -25,17 +25,18 @@ use Rattle.job.specs.declared.Asked.the-variants.{Paragraph as AskedParagraph, 
 use Rattle.rows.specs.Rows.{digits}
 use Rattle.rows.specs.Digits.{digits-width}
 use Rattle.rows.specs.Size.{row-one, row-two}
-use Rattle.listing.specs.Listing.{holds, least, starts, moveCount, values, startRow}
+use Rattle.listing.specs.Listing.{holds, spaceIn, least, starts, moveCount, values, startRow}
 use Rattle.listing.specs.Asks.{problem, Segment, Segments}
 
 -- ---- a line of a paragraph
 module _ {l : Limits} {ws : List ℕ} {i j : ℕ} (p : Segment (AskedParagraph l) ws i j) where
-  pub line-high : line ws i j ≤ l .lmax
+  pub line-high : lineLength l ws i j ≤ l .lmax
   unfolding problem paragraph settings lines
   line-high = admissible-lmax (lines l ws) i j (p .fits)
 
   -- but for a short last line
-  pub line-low : l .lmin ≤ l .lopt → (eqb j (end ws) && leb (line ws i j) (l .lopt)) ≡ false → l .lmin ≤ line ws i j
+  pub line-low : l .lmin ≤ l .lopt → (eqb j (end ws) && leb (lineLength l ws i j) (l .lopt)) ≡ false →
+      l .lmin ≤ lineLength l ws i j
   unfolding problem paragraph settings lines
   line-low = admissible-lmin (lines l ws) i j (p .fits)
 
@@ -44,16 +45,16 @@ module _ {l : Limits} {ws : List ℕ} {i j : ℕ} (p : Segment (AskedParagraph l
 pub four-digits : (x : ℕ) → x < 10 ^ 4 → length (digits x) ≤ 4
 four-digits x h = digits-width 4 x h (omega arith)
 
-pub start-size : (asked : Asked) (ws : List ℕ) (i j : ℕ) → Passed (holds asked) ws → Segment asked ws i j →
+pub start-size : (asked : Asked) (ws : List ℕ) (i j : ℕ) → Passed (holds asked) (spaceIn asked) ws → Segment asked ws i j →
     length (startRow asked ws i j) ≤ 20
-unfolding holds values
+unfolding holds spaceIn values
 start-size (AskedParagraph l) ws i j passed p =
     let r = ranges l (passed .limits) in
     omega (
       arith,
-      row-two (digits i) (line ws i j) (charge l ws i j),
+      row-two (digits i) (lineLength l ws i j) (charge l ws i j),
       four-digits i (omega (arith, p .order, p .within, passed .few)),
-      four-digits (line ws i j) (omega (arith, line-high p, r .lmax-high)),
+      four-digits (lineLength l ws i j) (omega (arith, line-high p, r .lmax-high)),
       digits-width 9 (charge l ws i j) (omega (arith, charge-bound l r ws i j (line-high p))) (omega arith),
     )
 start-size (AskedIndex l) ws zero j passed p = absurd (omega (arith, p .first))
@@ -62,7 +63,7 @@ start-size (AskedIndex l) ws (suc k) j passed p = unfold item in
       arith,
       row-one (digits (suc k)) (item ws (suc k)),
       four-digits (suc k) (omega (arith, p .order, p .within, passed .few)),
-      four-digits (item ws (suc k)) (omega (arith, length-holds ws (passed .lengths) k (omega (arith, p .order, p .within)) .1)),
+      four-digits (item ws (suc k)) (omega (arith, length-holds 0 ws (passed .lengths) k (omega (arith, p .order, p .within)) .1)),
     )
 
 -- ---- a setting that is given
@@ -100,9 +101,9 @@ pub record SetIs (asked : Asked) (ws is : List ℕ) (total : ℕ) : Type 0 where
   pub small : total < 2 ^ 40
   pub moves : moveCount asked ws ≤ 2 * length ws
 
-pub set-is : (asked : Asked) (ws : List ℕ) → Passed (holds asked) ws → (total : ℕ) → least asked ws ≡ some total →
+pub set-is : (asked : Asked) (ws : List ℕ) → Passed (holds asked) (spaceIn asked) ws → (total : ℕ) → least asked ws ≡ some total →
     SetIs asked ws (starts asked ws) total
-unfolding holds least starts moveCount problem paragraph settings lines index
+unfolding holds spaceIn least starts moveCount problem paragraph settings lines index
 set-is (AskedParagraph l) ws passed total e =
     let r = ranges l (passed .limits) in
     let right = paragraph-cheapest l ws (r .lopt-high) (passed .words) total e in

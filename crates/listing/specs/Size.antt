@@ -27,8 +27,8 @@ use Rattle.rows.specs.Size.{row-one, row-two}
 use Rattle.rows.specs.Puts.{sizes}
 use Rattle.listing.specs.declared.Listed.{Listed}
 use Rattle.listing.specs.declared.Listed.the-variants.{Written}
-use Rattle.listing.specs.Listing.{refused, refusal, holds, least, starts, moveCount, headed, head, startRow, startRows, movesRow}
-use Rattle.listing.specs.Listing.{costListing, checkedListing, askedListing, readingListing, listingOf}
+use Rattle.listing.specs.Listing.{refused, refusal, holds, spaceIn, least, starts, moveCount, headed, head, startRow, startRows}
+use Rattle.listing.specs.Listing.{movesRow, costListing, checkedListing, askedListing, readingListing, listingOf}
 use Rattle.listing.specs.Asks.{Segments}
 use Rattle.listing.specs.Settings.{four-digits, start-size, SetIs, set-is}
 use Rattle.listing.specs.Promise.{bytesOutcome}
@@ -61,7 +61,7 @@ head-size (AskedParagraph l) n total count hn ht hc =
 head-size (AskedIndex l) n total count hn ht hc =
     omega (arith, headed-size (ascii "index") n (ascii "keys") total (ascii "boundaries") count hn ht hc)
 
-starts-size : (asked : Asked) (ws : List ℕ) → Passed (holds asked) ws → (is : List ℕ) → Segments asked ws is →
+starts-size : (asked : Asked) (ws : List ℕ) → Passed (holds asked) (spaceIn asked) ws → (is : List ℕ) → Segments asked ws is →
     length (startRows asked ws is) ≤ 20 * length is
 unfolding startRows
 starts-size asked ws passed [] all = omega arith
@@ -74,7 +74,8 @@ starts-size asked ws passed (i ∷ is) all =
       starts-size asked ws passed is (record { each = λ k h. all .each (suc k) (omega arith) }),
     )
 
-pub set-size : (asked : Asked) (ws : List ℕ) → Passed (holds asked) ws → (total : ℕ) → SetIs asked ws (starts asked ws) total →
+pub set-size : (asked : Asked) (ws : List ℕ) → Passed (holds asked) (spaceIn asked) ws → (total : ℕ) →
+    SetIs asked ws (starts asked ws) total →
     sizes
     (head asked (length ws) total (length (starts asked ws)) ∷ startRows asked ws (starts asked ws) ∷ movesRow (moveCount asked ws) ∷ [])
     ≤ mostBytes
@@ -110,13 +111,13 @@ unfolding refusal
 refusal-size r h = refused-size 1 5 (toldRefusal r .number) (toldRefusal r .place) (one-digit r) (omega arith) h (omega arith)
 
 -- a length that fails is one of the words
-failing-within : (k : ℕ) (ws : List ℕ) → firstFailing lengthHolds k ws ≤ k + length ws
+failing-within : (ok : ℕ → Bool) (k : ℕ) (ws : List ℕ) → firstFailing ok k ws ≤ k + length ws
 unfolding firstFailing
-failing-within k [] = omega arith
-failing-within k (w ∷ ws) = go (lengthHolds w) (failing-within (suc k) ws)
+failing-within ok k [] = omega arith
+failing-within ok k (w ∷ ws) = go (ok w) (failing-within ok (suc k) ws)
   where
-    go : (b : Bool) → firstFailing lengthHolds (suc k) ws ≤ suc k + length ws →
-        elim b [ true ↦ firstFailing lengthHolds (suc k) ws | false ↦ k ] ≤ k + suc (length ws)
+    go : (b : Bool) → firstFailing ok (suc k) ws ≤ suc k + length ws →
+        elim b [ true ↦ firstFailing ok (suc k) ws | false ↦ k ] ≤ k + suc (length ws)
     go true h = omega arith
     go false h = omega arith
 
@@ -124,32 +125,33 @@ abbrev PlaceFew : Checked → Type 0
 PlaceFew Accept = Unit {0}
 PlaceFew (Refuse r) = toldRefusal r .place < 10 ^ 5
 
-checked-few : (hold : Bool) (ws : List ℕ) → PlaceFew (checked hold ws [] [])
+checked-few : (hold : Bool) (space : ℕ) (ws : List ℕ) → PlaceFew (checked hold space ws [] [])
 unfolding checked firstShort toldRefusal
-checked-few hold ws =
+checked-few hold space ws =
     let step = if-holds PlaceFew in
-    let bad = firstFailing lengthHolds 1 ws in
+    let bad = firstFailing (lengthHolds space) 1 ws in
     step (eqb (length ws) 0) _ _ (λ t. omega arith) (λ some. step (ltb mostWords (length ws)) _ _ (λ t. omega arith) (λ few.
     step (not hold) _ _ (λ t. omega arith) (λ hold. step (not (eqb bad 0)) _ _
-    (λ t. omega (arith, failing-within 1 ws, ltb-false mostWords (length ws) few)) (λ all. tt))))
+    (λ t. omega (arith, failing-within (lengthHolds space) 1 ws, ltb-false mostWords (length ws) few)) (λ all. tt))))
 
 -- ---- any listing
 asked-size : (asked : Asked) (ws : List ℕ) → length (askedListing asked ws) ≤ mostBytes
 unfolding askedListing checkedListing costListing
-asked-size asked ws = checked-size (checked (holds asked) ws [] []) refl (checked-few (holds asked) ws)
+asked-size asked ws = checked-size (checked (holds asked) (spaceIn asked) ws [] []) refl (checked-few (holds asked) (spaceIn asked) ws)
   where
-    cost-size : Passed (holds asked) ws → (c : Cost) → least asked ws ≡ c → length (costListing asked ws c) ≤ mostBytes
+    cost-size : Passed (holds asked) (spaceIn asked) ws → (c : Cost) → least asked ws ≡ c → length (costListing asked ws c) ≤ mostBytes
     cost-size passed none e = omega (arith, refused-size 1 1 6 0 (omega arith) (omega arith) (omega arith) (omega arith))
     cost-size passed (some v) e = simp length-append (omega (arith, set-size asked ws passed v (set-is asked ws passed v e)))
 
-    checked-size : (c : Checked) → checked (holds asked) ws [] [] ≡ c → PlaceFew c → length (checkedListing asked ws c) ≤ mostBytes
+    checked-size : (c : Checked) → checked (holds asked) (spaceIn asked) ws [] [] ≡ c → PlaceFew c →
+        length (checkedListing asked ws c) ≤ mostBytes
     checked-size (Refuse r) e p = omega (arith, refusal-size r p)
-    checked-size Accept e p = cost-size (accepted (holds asked) ws [] [] e .passed) (least asked ws) refl
+    checked-size Accept e p = cost-size (accepted (holds asked) (spaceIn asked) ws [] [] e .passed) (least asked ws) refl
 
 reading-size : (o : Reading) → Within mostWords o → length (readingListing o) ≤ mostBytes
 unfolding readingListing
 reading-size (refuse r) h = omega (arith, refusal-size r (omega (arith, h)))
-reading-size (accept asked ws) h = asked-size asked ws
+reading-size (accept limits ws) h = asked-size (limits .asked) ws
 
 pub listing-size : (job : List ℕ) → length (listingOf job) ≤ mostBytes
 unfolding listingOf

@@ -26,8 +26,9 @@ pub fn list(job: &[u8], out: &mut [u8]) -> Listed
 {
     let mut lengths = [0u32; 4096];
     let answer = read(job, &mut lengths);
-    let Job::Read(asked, n) = answer else {
+    let Job::Read(limits, n) = answer else {
         return refused(told_job(answer), out);
     };
+    let asked = limits.asked;
     list_asked(asked, &lengths[..n], out)
 }

@@ -1,6 +1,6 @@
 // The rows of a setting's starts: a paragraph's lines, an index's boundaries.
 use job::Asked;
-use lines::line;
+use lines::line_length;
 use lines::penalty;
 use paper::Limits;
 use rows::numbered;
@@ -24,7 +24,7 @@ fn measured(l: Limits, lengths: &[u32], sums: &[u32], i: usize, j: usize) -> Lin
     requires { ⌜ LineAsks l (now lengths) (now sums) i j ⌝ }
     ensures { λ r. ⌜ LineIs l (now (lengths .entry)) i j r ⌝ }
 {
-    let x = line(sums, i, j);
+    let x = line_length(l, sums, i, j);
     if j == lengths.len() + 1 && x <= l.lopt {
         return LineRow {
             length: long(x),

@@ -29,7 +29,7 @@ soFar l ws i = afterStarts (pagesOf l ws) (length ws) (length ws + 1 - i)
 
 -- the starts down to i are done
 pub record Paging (l : PageLimits) (S m : List ℕ) (t : PointerStrips) (i r count : ℕ) : Type 0 where
-  pub held : Holds (pageLimitsHold l) S
+  pub held : Holds (pageLimitsHold l) 0 S
   pub low : i ≤ length S
   pub room : 2 * length (wordsOf S) ≤ length m
   pub ran : Ran (soFar l (wordsOf S) i) 0 m (t .moves) count (pointing r t)
@@ -38,17 +38,17 @@ pub record Paging (l : PageLimits) (S m : List ℕ) (t : PointerStrips) (i r cou
   pub sized : PageSized S t
 
 -- the next start is ready, and each strip is as long as the entries used
-module _ (l : PageLimits) {S m : List ℕ} (t : PointerStrips) {i r count : ℕ} (held : Holds (pageLimitsHold l) S) (low : i ≤ length S)
+module _ (l : PageLimits) {S m : List ℕ} (t : PointerStrips) {i r count : ℕ} (held : Holds (pageLimitsHold l) 0 S) (low : i ≤ length S)
     (ran : Ran (soFar l (wordsOf S) i) 0 m (t .moves) count (pointing r t)) where
   ready-next : PointerReady l (wordsOf S) (i - 1) (pointing r t)
   ready-next =
-      let size = holds-length (pageLimitsHold l) S held in
+      let size = holds-length held in
       subst (PointerReady l (wordsOf S) (i - 1)) (ran .stands)
       (ready-at l (wordsOf S) (length (wordsOf S) + 1 - i) (i - 1) (omega arith))
 
   sizes : PageBests l (wordsOf S) (t .best) i → Entered (Index.chosenNext l (wordsOf S)) 0 (length (wordsOf S)) i (t .next) → PageSized S t
   sizes bests nexts =
-      let size = holds-length (pageLimitsHold l) S held in
+      let size = holds-length held in
       let next = ready-next .entries in
       record { best = omega (arith, bests-size bests); next = omega (arith, nexts .size); left = omega arith; right = omega arith }
 
@@ -64,7 +64,7 @@ pub paging-first : {l : PageLimits} {S : List ℕ} {s : PointerStrips} → PageS
 unfolding afterStarts
 paging-first {l} {S} {s} a {L} {R} left right =
     let n : ℕ = length (wordsOf S) in
-    let e : length S ≡ n + 1 = holds-length (pageLimitsHold l) S (a .held) in
+    let e : length S ≡ n + 1 = holds-length (a .held) in
     let z : n + 1 - length S ≡ 0 = omega arith in
     let lefts = cleared n (length S) (s .left) L e (a .sized .left) left in
     let rights = cleared n (length S) (s .right) R e (a .sized .right) right in
@@ -92,7 +92,7 @@ module _ {l : PageLimits} {S m : List ℕ} {t : PointerStrips} {i r count : ℕ}
   ws = wordsOf S
 
   size : length S ≡ length ws + 1
-  size = holds-length (pageLimitsHold l) S (g .held)
+  size = holds-length (g .held)
 
   pub paging-length : length (t .moves) ≡ length m
   paging-length =

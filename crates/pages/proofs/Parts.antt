@@ -6,7 +6,6 @@ use native.Mathlib.Omega.{arith}
 use lib.ListN.{length, take, drop}
 use lib.Seq.{length-take-le}
 use Rattle.laws.specs.Strip.{over, over-back}
-use Rattle.paper.specs.Allowed.{pageLimitsHold}
 use Rattle.paper.specs.declared.PageLimits.{PageLimits}
 use Rattle.paper.specs.Index as Index
 use Rattle.paper.specs.Strips.{sums, leftEntry, rightEntry}
@@ -30,7 +29,7 @@ module _ {l : PageLimits} {ws S₀ S : List ℕ} {s : PointerStrips} (a : PageFi
       let size = length-sums ws in
       rw (sums-front ws S₀ S filled)
       (record {
-        held = holds-sums (pageLimitsHold l) ws (a .passed);
+        held = holds-sums (a .passed);
         sized = record {
           best = omega (arith, length-take-le (length ws + 2) (s .best) (a .best));
           next = omega (arith, length-take-le (length ws + 2) (s .next) (a .next));

@@ -39,7 +39,7 @@ pub record PageSized (S : List ℕ) (s : PointerStrips) : Type 0 where
 
 -- the sums of a text, and room for the moves
 pub record PageStartsAsk (l : PageLimits) (S : List ℕ) (s : PointerStrips) : Type 0 where
-  pub held : Holds (pageLimitsHold l) S
+  pub held : Holds (pageLimitsHold l) 0 S
   pub sized : PageSized S s
   pub moves : 2 * length S ≤ length (s .moves) + 2
 

@@ -8,9 +8,13 @@ use Rattle.laws.specs.Number.{all}
 use Rattle.paper.specs.declared.Limits.{Limits}
 use Rattle.paper.specs.declared.PageLimits.{PageLimits}
 
--- "Limits in the order lmin, lopt, lmax, A, or lmin, lmax."
+-- "Limits in the order lmin, lopt, lmax, A, or lmin, lmax." W-202: "Paragraph limits gain the space [..], the space last."
+abbrev pub spacedLimits : ℕ → ℕ → ℕ → ℕ → ℕ → Limits
+spacedLimits lmin lopt lmax a space = record { lmin = lmin; lopt = lopt; lmax = lmax; a = a; space = space }
+
+-- 01's have no space: "Count 4 means space 0."
 abbrev pub limitsOf : ℕ → ℕ → ℕ → ℕ → Limits
-limitsOf lmin lopt lmax a = record { lmin = lmin; lopt = lopt; lmax = lmax; a = a }
+limitsOf lmin lopt lmax a = spacedLimits lmin lopt lmax a 0
 
 abbrev pub pageLimitsOf : ℕ → ℕ → PageLimits
 pageLimitsOf lmin lmax = record { lmin = lmin; lmax = lmax }
@@ -19,15 +23,15 @@ pageLimitsOf lmin lmax = record { lmin = lmin; lmax = lmax }
 abbrev pub mostWords : ℕ
 mostWords = 4096
 
--- "Each length: 1 to 4,095."
-unfoldable pub lengthHolds : ℕ → Bool
-lengthHolds w = leb 1 w && leb w 4095
+-- "Each length: 1 to 4,095." W-202: "a length not above the space is LENGTH", and 0 is above no space. In an index the space is 0.
+unfoldable pub lengthHolds : ℕ → ℕ → Bool
+lengthHolds space w = ltb space w && leb w 4095
 
--- "Paragraph: 1 ≤ lmin ≤ lopt ≤ lmax ≤ 4,095, lmin < lmax, A from 1 to 15."
+-- "Paragraph: 1 ≤ lmin ≤ lopt ≤ lmax ≤ 4,095, lmin < lmax, A from 1 to 15." W-202: "space above 255 is LIMITS"
 unfoldable pub limitsHold : Limits → Bool
 limitsHold l =
     leb 1 (l .lmin) && (leb (l .lmin) (l .lopt) && (leb (l .lopt) (l .lmax) && (leb (l .lmax) 4095
-    && (ltb (l .lmin) (l .lmax) && (leb 1 (l .a) && leb (l .a) 15)))))
+    && (ltb (l .lmin) (l .lmax) && (leb 1 (l .a) && (leb (l .a) 15 && leb (l .space) 255))))))
 
 -- "Index: 0 ≤ lmin < lmax ≤ 65,535."
 unfoldable pub pageLimitsHold : PageLimits → Bool
@@ -37,16 +41,16 @@ pageLimitsHold l = ltb (l .lmin) (l .lmax) && leb (l .lmax) 65535
 abbrev pub mostAlone : ℕ
 mostAlone = 16773120
 
--- a list that refusals 1 to 4 pass, where the limits hold
-pub record Passed (hold : Bool) (ws : List ℕ) : Type 0 where
+-- a list that refusals 1 to 4 pass, where the limits hold and have that space
+pub record Passed (hold : Bool) (space : ℕ) (ws : List ℕ) : Type 0 where
   pub limits : T hold
   pub words : 1 ≤ length ws
   pub few : length ws ≤ mostWords
-  pub lengths : T (all lengthHolds ws)
+  pub lengths : T (all (lengthHolds space) ws)
 
 -- a paragraph, and an index
 abbrev pub ParagraphPassed : Limits → List ℕ → Type 0
-ParagraphPassed l ws = Passed (limitsHold l) ws
+ParagraphPassed l ws = Passed (limitsHold l) (l .space) ws
 
 abbrev pub IndexPassed : PageLimits → List ℕ → Type 0
-IndexPassed l ws = Passed (pageLimitsHold l) ws
+IndexPassed l ws = Passed (pageLimitsHold l) 0 ws

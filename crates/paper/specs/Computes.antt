@@ -6,7 +6,7 @@ use Rattle.laws.specs.Chosen.{next}
 use Rattle.paper.specs.Lines as Lines
 use Rattle.paper.specs.Lines.{admissible, charge, settings, free}
 use Rattle.paper.specs.Paragraph as Paragraph
-use Rattle.paper.specs.Paragraph.{sum, line, penalty, lines, paragraph}
+use Rattle.paper.specs.Paragraph.{sum, line, lineLength, penalty, lines, paragraph}
 use Rattle.paper.specs.Index as Index
 use Rattle.paper.specs.Index.{gap, page, item, index}
 use Rattle.paper.specs.Allowed.{lengthHolds, limitsHold, pageLimitsHold}
@@ -24,7 +24,7 @@ unfolding over sum Table.best next lengthHolds firstFailing firstShort checked c
 stripsCompute = tt
 
 unfoldable pub paragraphComputes : Unit {0}
-unfolding stripsCompute line penalty lines paragraph admissible charge settings free sqd Lines.best Lines.chosenNext Lines.breaks
+unfolding stripsCompute line lineLength penalty lines paragraph admissible charge settings free sqd Lines.best Lines.chosenNext Lines.breaks
     Paragraph.best Paragraph.chosenNext Paragraph.breaks limitsHold
     QueueRules.textOf QueueRules.F QueueRules.edge QueueRules.chord QueueRules.dropLong QueueRules.popWorse QueueRules.popBridged
     QueueRules.add QueueRules.consider QueueRules.candidates QueueRules.dropWorse QueueRules.settled QueueRules.atStart

@@ -1,5 +1,5 @@
--- 01, "The compositor's table": the thirteen marked rows as data, what each says of the definitions, and what is computed for it.
--- Assumes nothing.
+-- 01, "The compositor's table": the thirteen marked rows as data, what each says of the definitions, and what is computed for it; and the
+-- rows of W-202. Assumes nothing.
 use Prim.Native.Nat.{ℕ}
 use mathlib.Core.Path.{_≡_, refl}
 use mathlib.Core.List.{List, [], _∷_, map}
@@ -7,7 +7,9 @@ use Rattle.laws.specs.Cost.{Cost, none, some}
 use Rattle.laws.specs.Search.{Tie, largest}
 use Rattle.laws.specs.Setting.{Problem, Best}
 use Rattle.laws.specs.Chosen.{Follows}
-use Rattle.paper.specs.Allowed.{limitsOf as limits, pageLimitsOf as pageLimits}
+use Rattle.paper.specs.declared.Limits.{Limits}
+use Rattle.paper.specs.declared.PageLimits.{PageLimits}
+use Rattle.paper.specs.Allowed.{spacedLimits, limitsOf, pageLimitsOf}
 use Rattle.paper.specs.Lines.{tie}
 use Rattle.paper.specs.Paragraph as Paragraph
 use Rattle.paper.specs.Paragraph.{lines, paragraph}
@@ -16,10 +18,19 @@ use Rattle.paper.specs.Computes.{paragraphComputes, indexComputes}
 use Rattle.paper.specs.Index.{index}
 
 -- ---- the rows
--- "Limits in the order lmin, lopt, lmax, A, or lmin, lmax."
 pub data RowLimits : Type 0 where
-  para : ℕ → ℕ → ℕ → ℕ → RowLimits
-  list : ℕ → ℕ → RowLimits
+  lines-in : Limits → RowLimits
+  pages-in : PageLimits → RowLimits
+
+-- "Limits in the order lmin, lopt, lmax, A, or lmin, lmax.", and those with a space
+abbrev para : ℕ → ℕ → ℕ → ℕ → RowLimits
+para lmin lopt lmax a = lines-in (limitsOf lmin lopt lmax a)
+
+abbrev spaced : ℕ → ℕ → ℕ → ℕ → ℕ → RowLimits
+spaced lmin lopt lmax a space = lines-in (spacedLimits lmin lopt lmax a space)
+
+abbrev list : ℕ → ℕ → RowLimits
+list lmin lmax = pages-in (pageLimitsOf lmin lmax)
 
 -- the total, and the breaks or boundaries
 pub data RowOutcome : Type 0 where
@@ -53,18 +64,29 @@ table =
     row (list 0 7) (7 ∷ []) (found 0 []) ∷
     []
 
+-- W-202's worked rows; then a word that fits lmax only because the space is off, and one that does not fit
+abbrev pub spaceTable : List Row
+spaceTable =
+    row (spaced 1 6 6 1 0) (3 ∷ 2 ∷ 2 ∷ 5 ∷ []) (found 13 (1 ∷ 2 ∷ 4 ∷ [])) ∷
+    row (spaced 1 5 6 1 1) (4 ∷ 3 ∷ 3 ∷ 6 ∷ []) (found 4 (1 ∷ 2 ∷ 4 ∷ [])) ∷
+    row (spaced 1 1 2 1 1) (2 ∷ []) (found 0 (1 ∷ [])) ∷
+    row (spaced 2 4 6 1 1) (4 ∷ 3 ∷ 3 ∷ []) (found 2 (1 ∷ 2 ∷ [])) ∷
+    row (spaced 6 8 10 1 2) (4 ∷ 4 ∷ 3 ∷ 5 ∷ 5 ∷ []) (found 1 (1 ∷ 4 ∷ [])) ∷
+    row (spaced 6 8 10 1 1) (11 ∷ []) (found 4 (1 ∷ [])) ∷
+    row (spaced 6 8 10 1 1) (12 ∷ []) NONE ∷
+    []
+
 -- ---- what the definitions say of a row
 -- v is the least total over all admissible settings from i, and js are the later starts that the tie rule chooses
 abbrev pub Sets : Problem → (ℕ → Tie) → ℕ → ℕ → List ℕ → Type 0
 Sets p tie i v js = Best p i (some v) × Follows p tie i js
 
 abbrev pub Given : RowLimits → List ℕ → RowOutcome → Type 0
-Given (para lmin lopt lmax a) ws NONE = Best (paragraph (limits lmin lopt lmax a) ws) 1 none
-Given (para lmin lopt lmax a) ws (found v []) = ⊥
-Given (para lmin lopt lmax a) ws (found v (s ∷ js)) =
-    (s ≡ 1) × Sets (paragraph (limits lmin lopt lmax a) ws) (tie (lines (limits lmin lopt lmax a) ws)) 1 v js
-Given (list lmin lmax) ws NONE = Best (index (pageLimits lmin lmax) ws) 0 none
-Given (list lmin lmax) ws (found v js) = Sets (index (pageLimits lmin lmax) ws) (λ i. largest) 0 v js
+Given (lines-in l) ws NONE = Best (paragraph l ws) 1 none
+Given (lines-in l) ws (found v []) = ⊥
+Given (lines-in l) ws (found v (s ∷ js)) = (s ≡ 1) × Sets (paragraph l ws) (tie (lines l ws)) 1 v js
+Given (pages-in l) ws NONE = Best (index l ws) 0 none
+Given (pages-in l) ws (found v js) = Sets (index l ws) (λ i. largest) 0 v js
 
 abbrev pub RowHolds : Row → Type 0
 RowHolds r = Given (r .asked) (r .lengths) (r .outcome)
@@ -80,11 +102,17 @@ outcomeOf none js = NONE
 outcomeOf (some v) js = found v js
 
 unfoldable pub computed : RowLimits → List ℕ → RowOutcome
-computed (para lmin lopt lmax a) ws = outcomeOf (Paragraph.best (limits lmin lopt lmax a) ws 1)
-    (Paragraph.breaks (limits lmin lopt lmax a) ws)
-computed (list lmin lmax) ws = outcomeOf (Index.best (pageLimits lmin lmax) ws 0) (Index.boundaries (pageLimits lmin lmax) ws)
+computed (lines-in l) ws = outcomeOf (Paragraph.best l ws 1) (Paragraph.breaks l ws)
+computed (pages-in l) ws = outcomeOf (Index.best l ws 0) (Index.boundaries l ws)
 
 -- What is computed for the rows is what the table says.
-pub rows-computed : map (λ (r : Row). computed (r .asked) (r .lengths)) table ≡ map (λ (r : Row). r .outcome) table
+abbrev pub Computed : List Row → Type 0
+Computed rows = map (λ (r : Row). computed (r .asked) (r .lengths)) rows ≡ map (λ (r : Row). r .outcome) rows
+
+pub rows-computed : Computed table
 unfolding computed paragraphComputes indexComputes
 rows-computed = refl
+
+pub space-rows-computed : Computed spaceTable
+unfolding computed paragraphComputes
+space-rows-computed = refl

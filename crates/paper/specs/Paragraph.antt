@@ -1,5 +1,5 @@
 -- 01, "The paragraph". Words are numbered from 1, ws has their lengths, and n + 1 is the end. What settings, totals and choices are
--- stands in Lines; here are 01's own lines.
+-- stands in Lines; here are 01's own lines, less the space (W-202).
 use Prim.Native.Nat.{ℕ, _+_, _-_, _*_}
 use mathlib.Core.List.{List, [], _∷_}
 use lib.ListN.{length, take, drop}
@@ -18,15 +18,20 @@ sum (w ∷ ws) = w + sum ws
 unfoldable pub line : List ℕ → ℕ → ℕ → ℕ
 line ws i j = sum (take (j - i) (drop (i - 1) ws))
 
+-- W-202: "A line's length becomes the sum less one space width, for the last line too." (Where i = j there is no line, and none is taken
+-- off: 0 less the space is 0 here. A line's sum is above the space, as every length is.)
+unfoldable pub lineLength : Limits → List ℕ → ℕ → ℕ → ℕ
+lineLength l ws i j = line ws i j - l .space
+
 -- "Index n+1 is the end."
 abbrev pub end : List ℕ → ℕ
 end ws = length ws + 1
 
--- "Penalty of a line of length x: A·(x - lopt)²."
+-- "Penalty of a line of length x: A·(x - lopt)²." (The space is off already.)
 unfoldable pub penalty : Limits → ℕ → ℕ
 penalty l x = l .a * sqd x (l .lopt)
 
--- 01's lines: the last line may be as short as it comes, and a break costs nothing.
+-- 01's lines, less the space: the last line may be as short as it comes, and a break costs nothing.
 unfoldable pub lines : Limits → List ℕ → Lines
 lines l ws = record {
   end = end ws;
@@ -34,7 +39,7 @@ lines l ws = record {
   lopt = l .lopt;
   lmax = l .lmax;
   lastmin = 0;
-  line = line ws;
+  line = lineLength l ws;
   penalty = penalty l;
   break = λ j. 0;
 }

@@ -14,7 +14,7 @@ use Rattle.paper.specs.Paragraph.{line, lines, best}
 use Rattle.paper.specs.Moves.{move, Taken, still, moved, joined}
 
 -- What the rules read: the paragraph's lines, A, Line between two breaks, and the best of each index, with what its break is charged joined
--- to it.
+-- to it. W-202: "Between two break points the space cancels, so the crossing test keeps its plain sums."
 pub record Text : Type 0 where
   pub lines : Lines
   pub a : ℕ

@@ -99,7 +99,7 @@ unfoldable pub paragraphChecked : Limits → List ℕ → ParagraphStrips → Ch
 paragraphChecked l ws s c = refusedOr s c (paragraphSet l ws s (Paragraph.best l ws 1))
 
 unfoldable pub paragraphOutcome : Limits → List ℕ → ParagraphStrips → ParagraphOutcome
-paragraphOutcome l ws s = paragraphChecked l ws s (checked (limitsHold l) ws (paragraphHas s) (paragraphNeeds (length ws)))
+paragraphOutcome l ws s = paragraphChecked l ws s (checked (limitsHold l) (l .space) ws (paragraphHas s) (paragraphNeeds (length ws)))
 
 -- ---- the index
 -- "Index: sums (n+1), best (n+2), next (n+2), left (n+2), right (n+2), moves (2n), boundaries (n)."
@@ -146,4 +146,4 @@ unfoldable pub indexChecked : PageLimits → List ℕ → IndexStrips → Checke
 indexChecked l ws s c = refusedOr s c (indexSet l ws s (Index.best l ws 0))
 
 unfoldable pub indexOutcome : PageLimits → List ℕ → IndexStrips → IndexOutcome
-indexOutcome l ws s = indexChecked l ws s (checked (pageLimitsHold l) ws (indexHas s) (indexNeeds (length ws)))
+indexOutcome l ws s = indexChecked l ws s (checked (pageLimitsHold l) 0 ws (indexHas s) (indexNeeds (length ws)))

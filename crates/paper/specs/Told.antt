@@ -105,7 +105,7 @@ module _ {R : Type 0} (plain : Refusal → R) where
   abbrev pub LIMITS : Bool → Check R
   LIMITS hold = plain BadLimits when not hold
 
-  -- "some length is 0 or above 4,095", "the first such word"
+  -- "some length is 0 or above 4,095", or, by W-202, not above the space; "the first such word"
   abbrev pub LENGTH : ℕ → Check R
   LENGTH word = plain (Length word) when not (eqb word 0)
 
@@ -133,24 +133,24 @@ itself r = r
 abbrev pub given : List (Check Refusal) → Checked
 given = firstGiven Refuse Accept
 
--- those of a paragraph and of an index, whose limits hold or not
-abbrev pub setterChecks : Bool → List ℕ → List ℕ → List ℕ → Checks Refusal
-setterChecks hold ws has needs = record {
+-- those of a paragraph and of an index, whose limits hold or not and have that space
+abbrev pub setterChecks : Bool → ℕ → List ℕ → List ℕ → List ℕ → Checks Refusal
+setterChecks hold space ws has needs = record {
   most = mostWords;
   n = length ws;
   limits = LIMITS itself hold ∷ [];
-  word = firstFailing lengthHolds 1 ws;
+  word = firstFailing (lengthHolds space) 1 ws;
   own = [];
   has = has;
   needs = needs;
 }
 
-unfoldable pub checked : Bool → List ℕ → List ℕ → List ℕ → Checked
-checked hold ws has needs = given (inOrder itself (setterChecks hold ws has needs))
+unfoldable pub checked : Bool → ℕ → List ℕ → List ℕ → List ℕ → Checked
+checked hold space ws has needs = given (inOrder itself (setterChecks hold space ws has needs))
 
 -- "The penalty formula can also be asked for alone, from paragraph limits and one length from 0 to 16,773,120. [..] Bad limits are LIMITS;
 -- then a larger length is LENGTH, place 0." W-204: "Outside lmin..lmax it gets a number that looks cheap; there the function shall answer
--- "outside"."
+-- "outside"." The length is that of a line, the space off already.
 unfoldable pub penaltyAlone : Limits → ℕ → Penalty
 penaltyAlone l x =
     if (not (limitsHold l)) (PenaltyRefused BadLimits)

@@ -1,12 +1,13 @@
-// The types of document 01. What they mean stands in specs/, in 01's order.
+// The types of document 01, with what 02's requests add. What they mean stands in specs/, in 01's order.
 
-// The limits of a paragraph: lmin, lopt, lmax and A.
+// The limits of a paragraph: lmin, lopt, lmax, A and the space (W-202).
 #[repr(C)]
 pub struct Limits {
     pub lmin: u32,
     pub lopt: u32,
     pub lmax: u32,
     pub a: u32,
+    pub space: u32,
 }
 
 // The limits of an index.

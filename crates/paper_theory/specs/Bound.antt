@@ -18,7 +18,7 @@ use Rattle.paper.specs.declared.PageLimits.{PageLimits}
 use Rattle.paper.specs.Paragraph as Paragraph
 use Rattle.paper.specs.Lines as Lines
 use Rattle.paper.specs.Lines.{Lines, inside, Inside, admissible, charge, settings}
-use Rattle.paper.specs.Paragraph.{line, end, penalty, lines}
+use Rattle.paper.specs.Paragraph.{lineLength, end, penalty, lines}
 use Rattle.paper.specs.Index as Index
 use Rattle.paper.specs.Index.{item, index}
 use Rattle.paper.specs.Allowed.{lengthHolds}
@@ -89,22 +89,22 @@ module _ (p : Lines) (C : ℕ) (each : (x : ℕ) → x ≤ p .lmax → (j : ℕ)
       best-bound (settings p) C (λ j k ch. line-bound j k (admissible-lmax p j k (ch .admissible))) (λ c n. omega arith) refl i v high
       (subst (Best (settings p) i) e (best-lines p i high))
 
--- what a line of 01's paragraph costs
+-- what a line of the paragraph costs
 pub charge-is : (l : Limits) (ws : List ℕ) (i j : ℕ) →
-    Paragraph.charge l ws i j ≡ if (eqb j (end ws) && leb (line ws i j) (l .lopt)) 0 (penalty l (line ws i j))
+    Paragraph.charge l ws i j ≡ if (eqb j (end ws) && leb (lineLength l ws i j) (l .lopt)) 0 (penalty l (lineLength l ws i j))
 unfolding Paragraph.charge charge lines
-charge-is l ws i j = go (eqb j (end ws) && leb (line ws i j) (l .lopt))
+charge-is l ws i j = go (eqb j (end ws) && leb (lineLength l ws i j) (l .lopt))
   where
-    go : (b : Bool) → if b 0 (penalty l (line ws i j) + 0) ≡ if b 0 (penalty l (line ws i j))
+    go : (b : Bool) → if b 0 (penalty l (lineLength l ws i j) + 0) ≡ if b 0 (penalty l (lineLength l ws i j))
     go true = refl
     go false = omega arith
 
-pub charge-bound : (l : Limits) → Ranges l → (ws : List ℕ) (i j : ℕ) → line ws i j ≤ l .lmax → Paragraph.charge l ws i j < 2 ^ 28
-charge-bound l r ws i j h = rw (charge-is l ws i j) (go (eqb j (end ws) && leb (line ws i j) (l .lopt)))
+pub charge-bound : (l : Limits) → Ranges l → (ws : List ℕ) (i j : ℕ) → lineLength l ws i j ≤ l .lmax → Paragraph.charge l ws i j < 2 ^ 28
+charge-bound l r ws i j h = rw (charge-is l ws i j) (go (eqb j (end ws) && leb (lineLength l ws i j) (l .lopt)))
   where
-    go : (b : Bool) → if b 0 (penalty l (line ws i j)) < 2 ^ 28
+    go : (b : Bool) → if b 0 (penalty l (lineLength l ws i j)) < 2 ^ 28
     go true = omega arith
-    go false = penalty-bound l r (line ws i j) h
+    go false = penalty-bound l r (lineLength l ws i j) h
 
 pub paragraph-bound : (l : Limits) → Ranges l → (ws : List ℕ) → length ws ≤ 4096 → (i v : ℕ) → 1 ≤ i → i ≤ end ws →
     Paragraph.best l ws i ≡ some v → v < 2 ^ 40
@@ -115,7 +115,7 @@ paragraph-bound l r ws few i v low high e =
     let m : end ws - i ≤ 4096 = omega arith in
     omega (arith, mul-le-mul-right (2 ^ 28 - 1) m)
 
-item-bound : (ws : List ℕ) → T (all lengthHolds ws) → (i : ℕ) → item ws i ≤ 4095
+item-bound : (ws : List ℕ) → T (all (lengthHolds 0) ws) → (i : ℕ) → item ws i ≤ 4095
 unfolding item
 item-bound ws t i = go i
   where
@@ -124,10 +124,10 @@ item-bound ws t i = go i
     go (suc k) =
         ⊎-elim
         (λ h. omega (arith, List·getD-eq-default ws 0 {n = k} h))
-        (λ h. omega (arith, length-holds ws t k h .1))
+        (λ h. omega (arith, length-holds 0 ws t k h .1))
         (split (length ws) k)
 
-pub index-bound : (l : PageLimits) (ws : List ℕ) → T (all lengthHolds ws) → length ws ≤ 4096 → (i v : ℕ) → i ≤ end ws →
+pub index-bound : (l : PageLimits) (ws : List ℕ) → T (all (lengthHolds 0) ws) → length ws ≤ 4096 → (i v : ℕ) → i ≤ end ws →
     Index.best l ws i ≡ some v → v < 2 ^ 25
 unfolding index
 index-bound l ws allowed few i v high e =

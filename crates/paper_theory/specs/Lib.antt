@@ -1,4 +1,5 @@
--- What follows from the definitions of document 01: ranges as orders, lines on a scale, demand 2, the bounds of totals, the penalty alone.
+-- What follows from the definitions of document 01: ranges as orders, lines on a scale, demand 2, the bounds of totals, the penalty alone,
+-- the space.
 pub mod Ranges
 pub mod Entries
 pub mod Scale
@@ -6,4 +7,5 @@ pub mod Cheapest
 pub mod Bound
 pub mod Formula
 pub mod Alone
+pub mod Space
 pub mod Marked

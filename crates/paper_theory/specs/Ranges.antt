@@ -1,4 +1,4 @@
--- 01's "Numbers allowed" as orders. Assumes nothing.
+-- 01's "Numbers allowed", with W-202's space, as orders. Assumes nothing.
 use Prim.Native.Nat.{_≤_, _<_}
 use lib.Dec.{T, leb, ltb, leb→le, ltb→lt}
 use Rattle.laws.specs.Number.{both}
@@ -15,6 +15,7 @@ pub record Ranges (l : Limits) : Type 0 where
   pub apart : l .lmin < l .lmax
   pub a-low : 1 ≤ l .a
   pub a-high : l .a ≤ 15
+  pub space-high : l .space ≤ 255
 
 pub ranges : (l : Limits) → T (limitsHold l) → Ranges l
 unfolding limitsHold
@@ -24,7 +25,8 @@ ranges l t =
     let b3 = both (leb (l .lopt) (l .lmax)) _ (b2 .1) in
     let b4 = both (leb (l .lmax) 4095) _ (b3 .1) in
     let b5 = both (ltb (l .lmin) (l .lmax)) _ (b4 .1) in
-    let b6 = both (leb 1 (l .a)) (leb (l .a) 15) (b5 .1) in
+    let b6 = both (leb 1 (l .a)) _ (b5 .1) in
+    let b7 = both (leb (l .a) 15) (leb (l .space) 255) (b6 .1) in
     record {
       lmin-low = leb→le 1 (l .lmin) (b1 .0);
       lopt-low = leb→le (l .lmin) (l .lopt) (b2 .0);
@@ -32,7 +34,8 @@ ranges l t =
       lmax-high = leb→le (l .lmax) 4095 (b4 .0);
       apart = ltb→lt (l .lmin) (l .lmax) (b5 .0);
       a-low = leb→le 1 (l .a) (b6 .0);
-      a-high = leb→le (l .a) 15 (b6 .1);
+      a-high = leb→le (l .a) 15 (b7 .0);
+      space-high = leb→le (l .space) 255 (b7 .1);
     }
 
 pub record PageRanges (l : PageLimits) : Type 0 where

@@ -3,11 +3,12 @@ use Prim.Native.Nat.{ℕ, zero, suc, _+_, _-_, _*_, _≤_, _<_}
 use mathlib.Core.Path.{_≡_, refl, ap, sym, subst, _∙_}
 use mathlib.Core.List.{List, [], _∷_, _++_}
 use native.Mathlib.Omega.{arith}
-use lib.Dec.{T, leb, leb→le}
+use lib.Dec.{T, leb, ltb, leb→le, ltb→lt}
 use lib.ListN.{length, take, drop, getD}
 use lib.Seq.{take-add}
 use Rattle.laws.specs.Number.{all, both}
-use Rattle.paper.specs.Paragraph.{sum, line}
+use Rattle.paper.specs.declared.Limits.{Limits}
+use Rattle.paper.specs.Paragraph.{sum, line, lineLength, end}
 use Rattle.paper.specs.Index.{gap}
 use Rattle.paper.specs.Allowed.{lengthHolds}
 
@@ -57,33 +58,42 @@ pub upTo-le : (ws : List ℕ) (j k : ℕ) → j ≤ k → upTo ws j ≤ upTo ws 
 upTo-le ws j k h = subst (λ (m : ℕ). upTo ws j ≤ upTo ws m) (omega arith) (upTo-mono ws j (k - j))
 
 -- ---- lengths that are allowed
-pub length-holds : (ws : List ℕ) → T (all lengthHolds ws) → (k : ℕ) → k < length ws → (1 ≤ getD ws k 0) × (getD ws k 0 ≤ 4095)
-unfolding lengthHolds
-length-holds [] t k h = absurd (omega arith)
-length-holds (w ∷ ws) t zero h =
-    let a = both (lengthHolds w) (all lengthHolds ws) t .0 in
-    let b = both (leb 1 w) (leb w 4095) a in
-    (leb→le 1 w (b .0), leb→le w 4095 (b .1))
-length-holds (w ∷ ws) t (suc k) h = length-holds ws (both (lengthHolds w) (all lengthHolds ws) t .1) k (omega arith)
+module _ (space : ℕ) where
+  pub length-holds : (ws : List ℕ) → T (all (lengthHolds space) ws) → (k : ℕ) → k < length ws →
+      (space < getD ws k 0) × (getD ws k 0 ≤ 4095)
+  unfolding lengthHolds
+  length-holds [] t k h = absurd (omega arith)
+  length-holds (w ∷ ws) t zero h =
+      let a = both (lengthHolds space w) (all (lengthHolds space) ws) t .0 in
+      let b = both (ltb space w) (leb w 4095) a in
+      (ltb→lt space w (b .0), leb→le w 4095 (b .1))
+  length-holds (w ∷ ws) t (suc k) h = length-holds ws (both (lengthHolds space w) (all (lengthHolds space) ws) t .1) k (omega arith)
 
--- by at least 1 and at most 4,095 a word
-module _ (ws : List ℕ) (allowed : T (all lengthHolds ws)) where
-  steps-up : (j d : ℕ) → j + d ≤ length ws → (upTo ws j + d ≤ upTo ws (j + d)) × (upTo ws (j + d) ≤ upTo ws j + d * 4095)
-  steps-up j zero h = let e : j + 0 ≡ j = omega arith in rw e (omega arith)
-  steps-up j (suc d) h =
-      let e : j + suc d ≡ suc (j + d) = omega arith in
-      let r = steps-up j d (omega arith) in
-      let w = length-holds ws allowed (j + d) (omega arith) in
-      rw e (omega (arith, upTo-suc ws (j + d) (omega arith)))
+  module _ (ws : List ℕ) (allowed : T (all (lengthHolds space) ws)) where
+    -- by more than the space where there is a word
+    pub upTo-rise : (j k : ℕ) → j < k → k ≤ length ws → upTo ws j + space < upTo ws k
+    upTo-rise j k h g =
+        omega (arith, upTo-suc ws j (omega arith), length-holds ws allowed j (omega arith) .0, upTo-le ws (suc j) k (omega arith))
 
-  pub upTo-rise : (j k : ℕ) → j < k → k ≤ length ws → upTo ws j < upTo ws k
-  upTo-rise j k h g =
-      let e : j + (k - j) ≡ k = omega arith in
-      let r : upTo ws j < upTo ws (j + (k - j)) = omega (arith, steps-up j (k - j) (omega arith) .0) in
-      rw e at r
+    -- by at most 4,095 a word
+    pub upTo-bound : (k : ℕ) → k ≤ length ws → upTo ws k ≤ k * 4095
+    upTo-bound zero h = omega (arith, upTo-zero ws)
+    upTo-bound (suc k) h =
+        omega (arith, upTo-bound k (omega arith), upTo-suc ws k (omega arith), length-holds ws allowed k (omega arith) .1)
 
-  pub upTo-bound : (k : ℕ) → k ≤ length ws → upTo ws k ≤ k * 4095
-  upTo-bound k h =
-      let e : 0 + k ≡ k = omega arith in
-      let r = rw e at (steps-up 0 k (omega arith) .1) in
-      omega (arith, upTo-zero ws)
+-- ---- a line's length on the scale
+-- a line has a word, and so the space is less than its sum: it begins that much later
+pub length-scale : (l : Limits) (ws : List ℕ) → T (all (lengthHolds (l .space)) ws) → (i j : ℕ) → 1 ≤ i → i < j → j ≤ end ws →
+    upTo ws (i - 1) + l .space + lineLength l ws i j ≡ upTo ws (j - 1)
+unfolding lineLength
+length-scale l ws allowed i j h ij je =
+    omega (
+      arith,
+      line-scale ws i j h (omega arith),
+      upTo-rise (l .space) ws allowed (i - 1) (j - 1) (omega arith) (omega arith),
+    )
+
+-- from a start to itself there is none
+pub length-none : (l : Limits) (ws : List ℕ) (i : ℕ) → 1 ≤ i → lineLength l ws i i ≡ 0
+unfolding lineLength
+length-none l ws i h = omega (arith, line-scale ws i i h (omega arith))

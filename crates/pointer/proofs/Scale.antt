@@ -4,7 +4,6 @@ use mathlib.Core.Path.{_≡_, ap, _∙_}
 use mathlib.Core.List.{List}
 use native.Mathlib.Omega.{arith}
 use lib.ListN.{length, getD}
-use Rattle.paper.specs.Allowed.{pageLimitsHold}
 use Rattle.paper.specs.declared.PageLimits.{PageLimits}
 use Rattle.paper.specs.Index.{gap, item}
 use Rattle.paper.specs.Strips.{sums}
@@ -43,7 +42,7 @@ module _ {l : PageLimits} {i : ℕ} {S : List ℕ} {r : ℕ} (page : PageTo l i 
       )
 
   pub page-few : length S ≤ 4097
-  page-few = holds-few (pageLimitsHold l) S (page .held)
+  page-few = holds-few (page .held)
 
   -- what a start adds to its sum fits
   pub page-small : (getD S i 0 + l .lmin < 2 ^ 25) × (getD S i 0 + l .lmax < 2 ^ 25)
@@ -54,10 +53,10 @@ module _ {l : PageLimits} {i : ℕ} {S : List ℕ} {r : ℕ} (page : PageTo l i 
 
       small : getD S i 0 ≤ 4096 * 4095
       small =
-          let size = holds-length (pageLimitsHold l) S (page .held) in
+          let size = holds-length (page .held) in
           omega (
             arith,
             sum-at (page .held .is) i (omega (arith, page .above, page .within)),
-            upTo-bound (wordsOf S) (page .held .passed .lengths) i (omega (arith, page .above, page .within)),
+            upTo-bound 0 (wordsOf S) (page .held .passed .lengths) i (omega (arith, page .above, page .within)),
             page-few,
           )

@@ -50,7 +50,7 @@ pointing r s = record { pointer = r; left = s .left; right = s .right }
 -- ---- asked
 -- a page from start i to r, of the text that the sums hold
 pub record PageTo (l : PageLimits) (i : ℕ) (S : List ℕ) (r : ℕ) : Type 0 where
-  pub held : Holds (pageLimitsHold l) S
+  pub held : Holds (pageLimitsHold l) 0 S
   pub above : i < r
   pub within : r ≤ length S
 
@@ -103,7 +103,7 @@ pub record PointerSettleAsk (l : PageLimits) (i : ℕ) (S B N : List ℕ) (r : �
 
 -- what stands before start i, and room for its moves
 pub record PointerStartAsk (l : PageLimits) (i : ℕ) (S : List ℕ) (r : ℕ) (s : PointerStrips) : Type 0 where
-  pub held : Holds (pageLimitsHold l) S
+  pub held : Holds (pageLimitsHold l) 0 S
   pub low : i < length S
   pub ready : PointerReady l (wordsOf S) i (pointing r s)
   pub bests : PageBests l (wordsOf S) (s .best) (suc i)

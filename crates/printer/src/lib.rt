@@ -14,9 +14,9 @@ pub fn print_listing(job: &[u8]) -> bool {
 
 // Prints the listings of a file of jobs, read from standard input, one after the other.
 pub fn print_listings() {
-    let mut space = io::large_buffer();
-    let n = io::read_full(0, &mut space);
-    let file = &space[..n];
+    let mut buffer = io::large_buffer();
+    let n = io::read_full(0, &mut buffer);
+    let file = &buffer[..n];
     let mut at = 0;
     while at + 2 <= file.len() {
         let r = record_at(file, at);

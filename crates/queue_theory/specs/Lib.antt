@@ -1,5 +1,5 @@
 -- 01's queue rules are right, over any text whose lines are differences of two rising scales: what stands at each start, how many moves are
--- taken, and that the front is the chosen next. The paragraph of 01 is the instance with both scales the sums.
+-- taken, and that the front is the chosen next. The paragraph is the instance with the sums as ends, and a space later as beginnings.
 pub mod Scales
 pub mod Turns
 pub mod Leaves

@@ -1,4 +1,5 @@
--- 01's paragraph on one scale, the sums, and demand 3 of it. Assumes nothing but what each theorem states.
+-- The paragraph on its two scales, which are the sums, moved by the space where a line begins; and demand 3 of it. Assumes nothing but
+-- what each theorem states.
 use Prim.Native.Nat.{ℕ, _+_, _-_, _*_, _≤_, _<_}
 use mathlib.Core.Path.{_≡_, refl, ap, sym, _∙_}
 use mathlib.Core.Logic.{_↔_}
@@ -15,14 +16,14 @@ use Rattle.paper.specs.declared.Penalty.the-variants.{Of}
 use Rattle.paper.specs.Allowed.{limitsHold, ParagraphPassed}
 use Rattle.paper.specs.Lines as Lines
 use Rattle.paper.specs.Lines.{Inside, free}
-use Rattle.paper.specs.Paragraph.{line, end, penalty, lines, best, chosenNext}
+use Rattle.paper.specs.Paragraph.{line, lineLength, end, penalty, lines, best, chosenNext}
 use Rattle.paper.specs.QueueRules.{textOf, frontNext, takenBest, takenNext, queueAt, queueMoves, afterStarts}
 use Rattle.paper.specs.Applied.{applied}
 use Rattle.paper.specs.Told.{penaltyAlone}
 use Rattle.paper_theory.specs.Alone.{alone-inside}
 use Rattle.paper_theory.specs.Formula.{byFormula, formula-best, formula-next}
 use Rattle.paper_theory.specs.Ranges.{Ranges, ranges}
-use Rattle.paper_theory.specs.Scale.{upTo, upTo-le, upTo-rise, line-scale}
+use Rattle.paper_theory.specs.Scale.{upTo, upTo-le, upTo-rise, line-scale, length-scale, length-none}
 use Rattle.paper_theory.specs.Cheapest.{free-best}
 use Rattle.queue_theory.specs.Scales.{Scaled, Bested}
 use Rattle.queue_theory.specs.Ready.{moves-so-far, stood-before}
@@ -38,17 +39,17 @@ module _ (l : Limits) (ws : List ℕ) (passed : ParagraphPassed l ws) where
   r : Ranges l
   r = ranges l (passed .limits)
 
-  -- a line begins and ends at the sum of the words before
+  -- a line ends at the sum of the words before its break, and begins a space after that of the words before its start
   pub scaled : Scaled (textOf l ws)
   unfolding textOf lines penalty
   scaled = record {
-    T = λ i. upTo ws (i - 1);
+    T = λ i. upTo ws (i - 1) + l .space;
     E = λ j. upTo ws (j - 1);
-    line = λ i j h ij je. line-scale ws i j h (omega arith);
-    empty = λ i h. omega (arith, line-scale ws i i h (omega arith));
+    line = length-scale l ws (passed .lengths);
+    empty = length-none l ws;
     apart = λ j k h jk ke. line-scale ws j k h jk;
-    ends-rise = λ j k h jk ke. upTo-rise ws (passed .lengths) (j - 1) (k - 1) (omega arith) (omega arith);
-    starts-rise = λ i j h ij je. upTo-le ws (i - 1) (j - 1) (omega arith);
+    ends-rise = λ j k h jk ke. omega (arith, upTo-rise (l .space) ws (passed .lengths) (j - 1) (k - 1) (omega arith) (omega arith));
+    starts-rise = λ i j h ij je. omega (arith, upTo-le ws (i - 1) (j - 1) (omega arith));
     formula = λ x low high. refl;
     positive = r .lmin-low;
   }
@@ -117,23 +118,23 @@ module _ (l : Limits) (ws : List ℕ) (passed : ParagraphPassed l ws) where
     start-takes = Front.start-takes scaled bested (length ws) size i start inside standing refl
 
     -- "n+1 if Line(i, n+1) ≤ lopt": that costs nothing
-    pub short-last : line ws i (end ws) ≤ l .lopt → (best l ws i ≡ some 0) × (chosenNext l ws i ≡ end ws)
+    pub short-last : lineLength l ws i (end ws) ≤ l .lopt → (best l ws i ≡ some 0) × (chosenNext l ws i ≡ end ws)
     unfolding lines best chosenNext free Lines.chosenNext
     short-last short =
         let e : free (lines l ws) i ≡ true = rw (
-          le-leb 0 (line ws i (end ws)) (omega arith),
-          le-leb (line ws i (end ws))
+          le-leb 0 (lineLength l ws i (end ws)) (omega arith),
+          le-leb (lineLength l ws i (end ws))
               (l .lopt) short,
         ) in
         (free-best (lines l ws) (r .lopt-high) i (omega arith) e, rw e)
 
-    module _ (long : l .lopt < line ws i (end ws)) where
+    module _ (long : l .lopt < lineLength l ws i (end ws)) where
       -- "otherwise the front is the chooser": 0 where none stands
       pub front-is-next : frontNext standing ≡ chosenNext l ws i
       unfolding textOf lines chosenNext Lines.chosenNext free
       front-is-next =
           Front.front-chooses scaled bested (length ws) size i start inside long standing refl .1
-          ∙ sym (rw (le-leb 0 (line ws i (end ws)) (omega arith), lt-leb (line ws i (end ws)) (l .lopt) long))
+          ∙ sym (rw (le-leb 0 (lineLength l ws i (end ws)) (omega arith), lt-leb (lineLength l ws i (end ws)) (l .lopt) long))
 
       -- "with an empty queue there is no setting"
       pub empty-exactly : (standing ≡ []) ↔ (best l ws i ≡ none)

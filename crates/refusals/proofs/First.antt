@@ -1,6 +1,6 @@
 -- One turn of a loop that looks for the first entry that fails, or for whether any does. Assumes nothing.
 use Prim.Native.Nat.{ℕ, _+_, _≤_, _<_}
-use mathlib.Core.Path.{_≡_}
+use mathlib.Core.Path.{_≡_, sym}
 use mathlib.Core.Bool.{Bool, true, false, _&&_, and-true, and-false}
 use mathlib.Core.List.{List}
 use native.Mathlib.Numerals.{add-one}
@@ -29,12 +29,10 @@ module _ (ws : List ℕ) (k : ℕ) (ok : ℕ → Bool) where
 
 -- where the loop stands at entry k, and `hold` says whether all before it held
 module _ (ws : List ℕ) (k : ℕ) (ok : ℕ → Bool) (hold : Bool) where
-  pub all-lost : k < length ws → ok (getD ws k 0) ≡ false → (hold && eqb (firstFailing ok (k + 1) (drop k ws)) 0) ≡ false
-  all-lost h e = rw (failing-here ws k ok h e, ne-eqb (k + 1) 0 (λ z. omega arith)) (and-false hold)
-
-  pub all-kept : k < length ws → ok (getD ws k 0) ≡ true →
-      (hold && eqb (firstFailing ok (k + 1) (drop k ws)) 0) ≡ (hold && eqb (firstFailing ok (k + 1 + 1) (drop (k + 1) ws)) 0)
-  all-kept h e = rw (failing-later ws k ok h e)
+  pub all-more : (this : Bool) → k < length ws → this ≡ ok (getD ws k 0) →
+      ((hold && this) && eqb (firstFailing ok (k + 1 + 1) (drop (k + 1) ws)) 0) ≡ (hold && eqb (firstFailing ok (k + 1) (drop k ws)) 0)
+  all-more true h e = rw (failing-later ws k ok h (sym e), and-true hold)
+  all-more false h e = rw (failing-here ws k ok h (sym e), ne-eqb (k + 1) 0 (λ z. omega arith), and-false hold)
 
   pub all-seen : length ws ≤ k → (hold && eqb (firstFailing ok (k + 1) (drop k ws)) 0) ≡ hold
   all-seen h = rw (failing-never ws k ok h) (and-true hold)

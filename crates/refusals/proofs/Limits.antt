@@ -26,6 +26,7 @@ limits-kept l r =
       lt-ltb _ _ (r .apart),
       le-leb _ _ (r .a-low),
       le-leb _ _ (r .a-high),
+      le-leb _ _ (r .space-high),
     )
 
 pub pages-fail : (l : PageLimits) → (PageRanges l → ⊥) → false ≡ pageLimitsHold l

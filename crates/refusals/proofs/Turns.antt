@@ -17,25 +17,26 @@ use Rattle.refusals.specs.Checks.{wordsFound, lengthsFound, roomFound, i
 rest : Bool → Checked → Checked → Checked
 rest hold found room = if (not hold) (Refuse BadLimits) (unless Refuse found (unless Refuse room Accept))
 
-module _ (hold : Bool) (ws has needs : List ℕ) {words : Checked} (w : words ≡ wordsFound mostWords (length ws)) where
-  turns : checked hold ws has needs ≡ unless Refuse words (rest hold (lengthsFound (firstFailing lengthHolds 1 ws)) (roomFound has needs))
+module _ (hold : Bool) (space : ℕ) (ws has needs : List ℕ) {words : Checked} (w : words ≡ wordsFound mostWords (length ws)) where
+  turns : checked hold space ws has needs
+      ≡ unless Refuse words (rest hold (lengthsFound (firstFailing (lengthHolds space) 1 ws)) (roomFound has needs))
   unfolding checked rest
-  turns = in-turn itself Refuse (setterChecks hold ws has needs) Accept ∙ (rw w)
+  turns = in-turn itself Refuse (setterChecks hold space ws has needs) Accept ∙ (rw w)
 
-  pub words-refuse : {r : Refusal} → words ≡ Refuse r → Refuse r ≡ checked hold ws has needs
+  pub words-refuse : {r : Refusal} → words ≡ Refuse r → Refuse r ≡ checked hold space ws has needs
   words-refuse e = sym (turns ∙ (rw e))
 
   module _ (a : words ≡ Accept) where
-    pub limits-refuse : not hold ≡ true → Refuse BadLimits ≡ checked hold ws has needs
+    pub limits-refuse : not hold ≡ true → Refuse BadLimits ≡ checked hold space ws has needs
     unfolding rest
     limits-refuse h = sym (turns ∙ (rw (a, h)))
 
-    module _ (h : not hold ≡ false) {found : Checked} (f : found ≡ lengthsFound (firstFailing lengthHolds 1 ws)) where
-      pub lengths-refuse : {r : Refusal} → found ≡ Refuse r → Refuse r ≡ checked hold ws has needs
+    module _ (h : not hold ≡ false) {found : Checked} (f : found ≡ lengthsFound (firstFailing (lengthHolds space) 1 ws)) where
+      pub lengths-refuse : {r : Refusal} → found ≡ Refuse r → Refuse r ≡ checked hold space ws has needs
       unfolding rest
       lengths-refuse e = sym (turns ∙ (rw (a, h, ← f, e)))
 
-      pub room-decides : found ≡ Accept → {room : Checked} → room ≡ roomFound has needs → room ≡ checked hold ws has needs
+      pub room-decides : found ≡ Accept → {room : Checked} → room ≡ roomFound has needs → room ≡ checked hold space ws has needs
       unfolding rest
       room-decides e g = g ∙ sym (turns ∙ (rw (a, h, ← f, e) (last (roomFound has needs))))
         where

@@ -41,20 +41,21 @@ none-short k (has ∷ hs) (needs ∷ ns) h e = go (leb needs has) refl e (none-s
     go false t f rest = absurd (omega arith)
 
 -- ---- all five checks pass
-pub record PassedChecks (hold : Bool) (ws has needs : List ℕ) : Type 0 where
-  pub passed : Passed hold ws
+pub record PassedChecks (hold : Bool) (space : ℕ) (ws has needs : List ℕ) : Type 0 where
+  pub passed : Passed hold space ws
   pub room : Roomy has needs
 
-pub accepted : (hold : Bool) (ws has needs : List ℕ) → checked hold ws has needs ≡ Accept → PassedChecks hold ws has needs
+pub accepted : (hold : Bool) (space : ℕ) (ws has needs : List ℕ) → checked hold space ws has needs ≡ Accept →
+    PassedChecks hold space ws has needs
 unfolding checked
-accepted hold ws has needs e =
-    let none = none-found itself refused-other (setterChecks hold ws has needs) e in
+accepted hold space ws has needs e =
+    let none = none-found itself refused-other (setterChecks hold space ws has needs) e in
     record {
       passed = record {
         limits = rw (not-false hold (none .limits .0)) tt;
         words = none .words;
         few = none .few;
-        lengths = none-fails lengthHolds 1 ws (omega arith) (none .lengths);
+        lengths = none-fails (lengthHolds space) 1 ws (omega arith) (none .lengths);
       };
       room = none-short 1 has needs (omega arith) (none .room);
     }

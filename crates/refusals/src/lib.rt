@@ -36,6 +36,9 @@ pub fn limits_hold(l: Limits) -> bool
     if 15 < l.a {
         return false;
     }
+    if 255 < l.space {
+        return false;
+    }
     true
 }
 
@@ -51,37 +54,33 @@ pub fn page_limits_hold(l: PageLimits) -> bool
     true
 }
 
-fn length_holds(w: u32) -> bool
-    ensures { λ r. ⌜ r ≡ lengthHolds w ⌝ }
+// W-202: "a length not above the space is LENGTH". An index has space 0.
+fn length_holds(space: u32, w: u32) -> bool
+    ensures { λ r. ⌜ r ≡ lengthHolds space w ⌝ }
 {
-    if w < 1 {
-        return false;
-    }
-    w <= 4095
+    (space < w) & (w <= 4095)
 }
 
-// Whether every length is allowed. No early exit, so that the compiler can take several words at a time.
-fn all_hold(lengths: &[u32]) -> bool
-    ensures { λ r. ⌜ r ≡ eqb (firstFailing lengthHolds 1 (now (lengths .entry))) 0 ⌝ }
+// Whether every length is allowed. No early exit and no branch, so that the compiler can take several words at a time.
+fn all_hold(space: u32, lengths: &[u32]) -> bool
+    ensures { λ r. ⌜ r ≡ eqb (firstFailing (lengthHolds space) 1 (now (lengths .entry))) 0 ⌝ }
 {
     let mut hold = true;
     let mut k = 0;
     while k < lengths.len() {
-        if !length_holds(lengths[k]) {
-            hold = false;
-        }
+        hold = hold & length_holds(space, lengths[k]);
         k += 1;
     }
     hold
 }
 
-// The first word whose length is 0 or above 4,095, counted from 1; 0 where there is none.
-fn first_bad(lengths: &[u32]) -> usize
-    ensures { λ r. ⌜ r ≡ firstFailing lengthHolds 1 (now (lengths .entry)) ⌝ }
+// The first word whose length is not allowed, counted from 1; 0 where there is none.
+fn first_bad(space: u32, lengths: &[u32]) -> usize
+    ensures { λ r. ⌜ r ≡ firstFailing (lengthHolds space) 1 (now (lengths .entry)) ⌝ }
 {
     let mut k = 0;
     while k < lengths.len() {
-        if !length_holds(lengths[k]) {
+        if !length_holds(space, lengths[k]) {
             return k + 1;
         }
         k += 1;
@@ -118,13 +117,13 @@ pub fn check_words(most: usize, n: usize) -> Checked
 }
 
 // LENGTH.
-pub fn check_lengths(lengths: &[u32]) -> Checked
-    ensures { λ r. ⌜ r ≡ lengthsFound (firstFailing lengthHolds 1 (now (lengths .entry))) ⌝ }
+pub fn check_lengths(space: u32, lengths: &[u32]) -> Checked
+    ensures { λ r. ⌜ r ≡ lengthsFound (firstFailing (lengthHolds space) 1 (now (lengths .entry))) ⌝ }
 {
-    if all_hold(lengths) {
+    if all_hold(space, lengths) {
         return Checked::Accept;
     }
-    Checked::Refuse(Refusal::Length(first_bad(lengths)))
+    Checked::Refuse(Refusal::Length(first_bad(space, lengths)))
 }
 
 // ROOM.
@@ -139,10 +138,10 @@ pub fn check_room(has: &[usize], needs: &[usize]) -> Checked
     Checked::Refuse(Refusal::Room(strip))
 }
 
-// The first of refusals 1 to 5 that applies; `hold` says whether the limits do.
-pub fn check(hold: bool, lengths: &[u32], has: &[usize], needs: &[usize]) -> Checked
+// The first of refusals 1 to 5 that applies; `hold` says whether the limits do, whose space every length is to exceed.
+pub fn check(hold: bool, space: u32, lengths: &[u32], has: &[usize], needs: &[usize]) -> Checked
     requires { ⌜ length (now has) ≤ length (now needs) ⌝ }
-    ensures { λ r. ⌜ r ≡ checked hold (now (lengths .entry)) (now (has .entry)) (now (needs .entry)) ⌝ }
+    ensures { λ r. ⌜ r ≡ checked hold space (now (lengths .entry)) (now (has .entry)) (now (needs .entry)) ⌝ }
 {
     let words = check_words(4096, lengths.len());
     if let Checked::Refuse(r) = words {
@@ -151,7 +150,7 @@ pub fn check(hold: bool, lengths: &[u32], has: &[usize], needs: &[usize]) -> Che
     if !hold {
         return Checked::Refuse(Refusal::Limits);
     }
-    let found = check_lengths(lengths);
+    let found = check_lengths(space, lengths);
     if let Checked::Refuse(r) = found {
         return Checked::Refuse(r);
     }

@@ -21,29 +21,30 @@ use Rattle.breaks.specs.Asks.{SetAsks}
 use Rattle.pages.specs.Asks.{PageAsk}
 
 -- ---- what the checks found, for limits that hold or not
-module _ (held : Bool) (ws has needs : List ℕ) {hold : Bool} {found : Checked} (h : hold ≡ held)
-    (f : found ≡ checked hold ws has needs) where
-  pub found-is : {c : Checked} → found ≡ c → checked held ws has needs ≡ c
+module _ (held : Bool) (space : ℕ) (ws has needs : List ℕ) {hold : Bool} {found : Checked} (h : hold ≡ held)
+    (f : found ≡ checked hold space ws has needs) where
+  pub found-is : {c : Checked} → found ≡ c → checked held space ws has needs ≡ c
   found-is e = rw (← h) (sym f ∙ e)
 
   -- a refusal is the outcome, and else what is set
   module _ {S : Type 0} (s : S) (o : Outcome Answer S) where
-    pub refusal-kept : {r : Refusal} → found ≡ Refuse r → Promise (Answers told) (refusedOr s (checked held ws has needs) o) (Refused r) s
+    pub refusal-kept : {r : Refusal} → found ≡ Refuse r →
+        Promise (Answers told) (refusedOr s (checked held space ws has needs) o) (Refused r) s
     refusal-kept e = rw (found-is e) (record { tells = answers refl; strips = refl })
 
     pub setting-kept : {a : Answer} {t : S} → found ≡ Accept → a ≡ o .answer → t ≡ o .strips →
-        Promise (Answers told) (refusedOr s (checked held ws has needs) o) a t
+        Promise (Answers told) (refusedOr s (checked held space ws has needs) o) a t
     setting-kept e k g = rw (found-is e) (record { tells = answers k; strips = g })
 
 -- ---- what passes is what the engines ask
 pub paragraph-passes : (l : Limits) (ws : List ℕ) (s : ParagraphStrips) →
-    checked (limitsHold l) ws (paragraphHas s) (paragraphNeeds (length ws)) ≡ Accept → SetAsks l ws s
+    checked (limitsHold l) (l .space) ws (paragraphHas s) (paragraphNeeds (length ws)) ≡ Accept → SetAsks l ws s
 paragraph-passes l ws s e =
-    let passed = accepted (limitsHold l) ws (paragraphHas s) (paragraphNeeds (length ws)) e in
+    let passed = accepted (limitsHold l) (l .space) ws (paragraphHas s) (paragraphNeeds (length ws)) e in
     search needs
 
 pub index-passes : (l : PageLimits) (ws : List ℕ) (s : IndexStrips) →
-    checked (pageLimitsHold l) ws (indexHas s) (indexNeeds (length ws)) ≡ Accept → PageAsk l ws s
+    checked (pageLimitsHold l) 0 ws (indexHas s) (indexNeeds (length ws)) ≡ Accept → PageAsk l ws s
 index-passes l ws s e =
-    let passed = accepted (pageLimitsHold l) ws (indexHas s) (indexNeeds (length ws)) e in
+    let passed = accepted (pageLimitsHold l) 0 ws (indexHas s) (indexNeeds (length ws)) e in
     search needs

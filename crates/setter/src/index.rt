@@ -37,7 +37,7 @@ pub fn set_index(
         boundaries.len(),
     ];
     let needs = [n + 1, n + 2, n + 2, n + 2, n + 2, 2 * n, n];
-    let checked = check(page_limits_hold(l), lengths, &has, &needs);
+    let checked = check(page_limits_hold(l), 0, lengths, &has, &needs);
     if let Checked::Refuse(r) = checked {
         return Answer::Refused(r);
     }

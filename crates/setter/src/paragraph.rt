@@ -39,14 +39,14 @@ pub fn set_paragraph(
         breaks.len(),
     ];
     let needs = [n + 1, n + 1, n + 1, n, 2 * n, n];
-    let checked = check(limits_hold(l), lengths, &has, &needs);
+    let checked = check(limits_hold(l), l.space, lengths, &has, &needs);
     if let Checked::Refuse(r) = checked {
         return Answer::Refused(r);
     }
     set(l, lengths, sums, best, next, queue, moves, breaks)
 }
 
-// The penalty of a line of one length, asked for alone: outside the measure there is none (W-204).
+// The penalty of a line of one length, asked for alone: outside the measure there is none (W-204). The space is off that length already.
 pub fn penalty_alone(l: Limits, length: u32) -> Penalty
     ensures { λ r. ⌜ PenaltyPromise (penaltyAlone l length) r ⌝ }
 {

@@ -44,8 +44,8 @@ module _ {ws s₀ s : List ℕ} {k total : ℕ} (f : Filling ws s₀ s k total) 
         len = length-set s (k + 1) (total + getD ws k 0) ∙ f .len;
       }
 
-  pub filling-fits : T (all lengthHolds ws) → length ws ≤ 4096 → total + getD ws k 0 ≤ 4096 * 4095
-  filling-fits allowed few = omega (arith, total-next, upTo-bound ws allowed (k + 1) (omega arith))
+  pub filling-fits : (space : ℕ) → T (all (lengthHolds space) ws) → length ws ≤ 4096 → total + getD ws k 0 ≤ 4096 * 4095
+  filling-fits space allowed few = omega (arith, total-next, upTo-bound space ws allowed (k + 1) (omega arith))
 
 -- the loop ends: the sums stand at the front of the strip
 pub filling-done : (ws s t : List ℕ) (k total : ℕ) → Filling ws (set s 0 0) t k total → length ws ≤ k → t ≡ over (sums ws) s

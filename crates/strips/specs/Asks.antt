@@ -10,10 +10,11 @@ use Rattle.paper.specs.declared.Move.{Move}
 use Rattle.paper.specs.Allowed.{lengthHolds}
 use Rattle.strips.specs.Chain.{LeadsOn}
 
--- lengths that are allowed, and room for their sums
+-- lengths that are allowed, by whatever space, and room for their sums
 pub record SumsAsk (ws s : List ℕ) : Type 0 where
   pub few : length ws ≤ 4096
-  pub allowed : T (all lengthHolds ws)
+  pub space : ℕ
+  pub allowed : T (all (lengthHolds space) ws)
   pub room : length ws < length s
 
 -- a place in the strip, and an index of a text

@@ -10,6 +10,7 @@ use Rattle.laws.specs.Strip.{over, over-take}
 use Rattle.paper.specs.Allowed.{Passed}
 use Rattle.paper_theory.specs.Scale.{upTo, upTo-suc, upTo-le}
 use Rattle.paper.specs.Strips.{entries, sums}
+use Rattle.strips.specs.Asks.{SumsAsk}
 use Rattle.paper_theory.specs.Entries.{length-entries, getD-entries}
 
 -- the lengths whose sums the strip holds: the differences of neighbours
@@ -17,8 +18,8 @@ unfoldable pub wordsOf : List ℕ → List ℕ
 wordsOf S = entries (λ k. getD S (suc k) 0 - getD S k 0) 0 (length S - 1)
 
 -- the strip holds the sums of a text that refusals 1 to 4 pass
-pub record Holds (hold : Bool) (S : List ℕ) : Type 0 where
-  pub passed : Passed hold (wordsOf S)
+pub record Holds (hold : Bool) (space : ℕ) (S : List ℕ) : Type 0 where
+  pub passed : Passed hold space (wordsOf S)
   pub is : S ≡ sums (wordsOf S)
 
 pub length-sums : (ws : List ℕ) → length (sums ws) ≡ length ws + 1
@@ -57,10 +58,14 @@ words-of-sums ws =
         ∙ rw e (omega (arith, getD-sums ws (suc k) h, getD-sums ws k (omega arith), upTo-suc ws k h))
 
 -- sums that were made of a text hold it
-pub holds-sums : (hold : Bool) (ws : List ℕ) → Passed hold ws → Holds hold (sums ws)
-holds-sums hold ws passed = record { passed = rw (words-of-sums ws) passed; is = ap sums (sym (words-of-sums ws)) }
+pub holds-sums : {hold : Bool} {space : ℕ} {ws : List ℕ} → Passed hold space ws → Holds hold space (sums ws)
+holds-sums {ws = ws} passed = record { passed = rw (words-of-sums ws) passed; is = ap sums (sym (words-of-sums ws)) }
 
-module _ (hold : Bool) (S : List ℕ) (h : Holds hold S) where
+-- a text that refusals 1 to 4 pass may be summed
+pub passed-sums : {hold : Bool} {space : ℕ} {ws s : List ℕ} → Passed hold space ws → length ws < length s → SumsAsk ws s
+passed-sums {space = space} p room = record { few = p .few; space = space; allowed = p .lengths; room = room }
+
+module _ {hold : Bool} {space : ℕ} {S : List ℕ} (h : Holds hold space S) where
   pub holds-length : length S ≡ length (wordsOf S) + 1
   holds-length = ap length (h .is) ∙ length-sums (wordsOf S)
 

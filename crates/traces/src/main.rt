@@ -26,19 +26,20 @@ fn trace_asked(asked: Asked, lengths: &[u32])
 // Prints the strips of one job of up to 12 lengths. A job that is refused prints nothing.
 fn trace(file: &[u8]) {
     let mut lengths = [0u32; 12];
-    let Job::Read(asked, n) = job::read(file, &mut lengths) else {
+    let Job::Read(limits, n) = job::read(file, &mut lengths) else {
         return;
     };
     if 12 < n {
         return;
     }
+    let asked = limits.asked;
     trace_asked(asked, &lengths[..n]);
 }
 
 fn main() {
-    let mut space = io::large_buffer();
-    let n = io::read_full(0, &mut space);
-    let file = &space[..n];
+    let mut buffer = io::large_buffer();
+    let n = io::read_full(0, &mut buffer);
+    let file = &buffer[..n];
     let mut at = 0;
     while at + 2 <= file.len() {
         let r = record_at(file, at);

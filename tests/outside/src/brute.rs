@@ -1,4 +1,4 @@
-//! The definitions of document 01 with nothing clever: every setting and every boundary sequence is listed.
+//! The definitions of document 01, with the space of W-202 and nothing clever: every setting and every boundary sequence is listed.
 use crate::paper::Starts;
 use hathurmo::raw::{Limits, PageLimits};
 use hathurmo::NO_SETTING;
@@ -9,13 +9,18 @@ fn points(first: usize, n: usize, bits: u32) -> Vec<usize> {
     std::iter::once(first).chain(later).chain(std::iter::once(n + 1)).collect()
 }
 
+/// The length of a line of these words, at least one: the space after the last of them is off.
+fn line(l: Limits, words: &[u32]) -> u32 {
+    words.iter().sum::<u32>() - l.space
+}
+
 /// The total of a setting, where it is admissible.
 fn setting_total(l: Limits, lengths: &[u32], points: &[usize]) -> Option<u64> {
     let n = lengths.len();
     let mut total = 0;
-    for line in points.windows(2) {
-        let x: u32 = lengths[line[0] - 1..line[1] - 1].iter().sum();
-        let last = line[1] == n + 1;
+    for ends in points.windows(2) {
+        let x = line(l, &lengths[ends[0] - 1..ends[1] - 1]);
+        let last = ends[1] == n + 1;
         if x > l.lmax || (x < l.lmin && !last) {
             return None;
         }
@@ -32,9 +37,8 @@ pub fn paragraph(l: Limits, lengths: &[u32]) -> Starts {
         let all = (0..1 << (n - i)).map(|bits| points(i, n, bits));
         let least = all.filter_map(|p| setting_total(l, lengths, &p).map(|total| (total, p[1]))).min();
         let (best, next) = least.unwrap_or((NO_SETTING, 0));
-        let rest: u32 = lengths[i - 1..].iter().sum();
         starts.best[i - 1] = best;
-        starts.next[i - 1] = if rest <= l.lopt { n as u32 + 1 } else { next as u32 };
+        starts.next[i - 1] = if line(l, &lengths[i - 1..]) <= l.lopt { n as u32 + 1 } else { next as u32 };
     }
     starts
 }

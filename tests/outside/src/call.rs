@@ -7,6 +7,7 @@ use hathurmo::raw::{self, Limits, PageLimits, Told};
 const GUARD: usize = 3;
 
 /// A strip inside larger memory, with a copy of that memory from before the call.
+#[derive(Clone, PartialEq)]
 struct Strip<T> {
     memory: Vec<T>,
     entry: Vec<T>,
@@ -56,6 +57,7 @@ fn equal<T: PartialEq + std::fmt::Debug>(name: &str, is: T, expected: T) -> Resu
 }
 
 /// The strips of a call in 01's order; best is the second and the only one of 64 bits.
+#[derive(Clone, PartialEq)]
 struct Strips {
     best: Strip<u64>,
     narrow: Vec<Strip<u32>>,
@@ -77,25 +79,40 @@ impl Strips {
     }
 }
 
+/// The library sets a paragraph in these strips.
+fn set_paragraph(limits: Limits, input: &mut Strip<u32>, strips: &mut Strips) -> Told {
+    let (best, best_len) = (strips.best.pointer(), strips.best.len());
+    let lens: Vec<usize> = strips.narrow.iter().map(Strip::len).collect();
+    let [sums, next, queue, moves, breaks] = [0, 1, 2, 3, 4].map(|k| strips.narrow[k].pointer());
+    // SAFETY: each pointer begins a strip of the length beside it, and the strips lie in separate memory.
+    unsafe {
+        raw::hathurmo_set_paragraph(
+            limits, input.pointer(), input.len(), sums, lens[0], best, best_len, next, lens[1], queue, lens[2], moves, lens[3],
+            breaks, lens[4],
+        )
+    }
+}
+
 /// Sets a paragraph with strips of the lengths given and compares everything; what was told.
 pub fn paragraph(limits: Limits, lengths: &[u32], lent: &[usize], r: &mut Random) -> Result<(Told, Outcome), String> {
     let outcome = paper::paragraph(limits, lengths, lent);
     let mut input = Strip::holding(lengths, || r.bits() as u32);
     let mut strips = Strips::new(lent, r);
-    let (best, best_len) = (strips.best.pointer(), strips.best.len());
-    let lens: Vec<usize> = strips.narrow.iter().map(Strip::len).collect();
-    let [sums, next, queue, moves, breaks] = [0, 1, 2, 3, 4].map(|k| strips.narrow[k].pointer());
-    // SAFETY: each pointer begins a strip of the length beside it, and the strips lie in separate memory.
-    let told = unsafe {
-        raw::hathurmo_set_paragraph(
-            limits, input.pointer(), lengths.len(), sums, lens[0], best, best_len, next, lens[1], queue, lens[2], moves, lens[3],
-            breaks, lens[4],
-        )
-    };
+    let told = set_paragraph(limits, &mut input, &mut strips);
     equal("told", told, outcome.told)?;
     input.compare("lengths", &[])?;
     strips.compare(&["sums", "next", "queue", "moves", "breaks"], &outcome)?;
     Ok((told, outcome))
+}
+
+/// Sets a paragraph under two sets of limits, in the same strips. All that is told and written must be the same; the first is told.
+pub fn same_paragraph(limits: [Limits; 2], lengths: &[u32], lent: &[usize], r: &mut Random) -> Result<Told, String> {
+    let mut input = Strip::holding(lengths, || r.bits() as u32);
+    let mut strips = Strips::new(lent, r);
+    let mut others = strips.clone();
+    let told = set_paragraph(limits[0], &mut input, &mut strips);
+    equal("told under the other limits", set_paragraph(limits[1], &mut input, &mut others), told)?;
+    if strips == others { Ok(told) } else { Err("the strips differ under the other limits".to_string()) }
 }
 
 /// Sets an index with strips of the lengths given and compares everything; what was told.
@@ -135,15 +152,16 @@ pub fn penalty(limits: Limits, length: u32) -> Result<Told, String> {
 
 /// What the reader must return, and the lengths that it must write.
 fn expected_job(job: &[u8], room: usize) -> (raw::Job, Vec<u32>) {
-    let blank = raw::Job { number: 0, place: 0, count: 0, lmin: 0, lopt: 0, lmax: 0, a: 0, n: 0 };
+    let blank = raw::Job { number: 0, place: 0, count: 0, lmin: 0, lopt: 0, lmax: 0, a: 0, space: 0, n: 0 };
     match paper::read_job(job, room) {
         Err((number, place)) => (raw::Job { number, place: place as u64, ..blank }, vec![]),
         Ok((count, limits, lengths)) => {
             let n = lengths.len() as u64;
             let read = match limits[..] {
+                [lmin, lopt, lmax, a, space] => raw::Job { count, lmin, lopt, lmax, a, space, n, ..blank },
                 [lmin, lopt, lmax, a] => raw::Job { count, lmin, lopt, lmax, a, n, ..blank },
                 [lmin, lmax] => raw::Job { count, lmin, lmax, n, ..blank },
-                _ => unreachable!("limits are four or two"),
+                _ => unreachable!("limits are five, four or two"),
             };
             (read, lengths)
         }

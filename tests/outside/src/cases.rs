@@ -9,12 +9,29 @@ pub fn short_lengths(r: &mut Random, most: usize) -> (Vec<u32>, u32) {
     ((0..n).map(|_| r.within(1, widest)).collect(), widest)
 }
 
+/// A space: none as often as not, else narrow or wide or the widest.
+fn space(r: &mut Random) -> u32 {
+    let (narrow, any) = (r.within(1, 20), r.within(1, 255));
+    if r.once_in(2) { 0 } else { r.pick(&[1, 1, 2, 3, narrow, any, 255]) }
+}
+
+/// The lengths with a space after each; none is above 4,095, and all are above the space, those of one unit by no more than that.
+fn spaced(lengths: &[u32], space: u32) -> Vec<u32> {
+    lengths.iter().map(|length| (length + space).min(4095)).collect()
+}
+
+/// A paragraph of these words: a space after each, and limits near what they are then.
+pub fn paragraph(r: &mut Random, lengths: &[u32], widest: u32) -> (Limits, Vec<u32>) {
+    let space = space(r);
+    (Limits { space, ..limits(r, (widest + space).min(4095)) }, spaced(lengths, space))
+}
+
 /// Limits near the lengths, loose or tight, lopt often at an end.
-pub fn limits(r: &mut Random, widest: u32) -> Limits {
+fn limits(r: &mut Random, widest: u32) -> Limits {
     let lmax = r.within(2, (5 * widest + 2).min(4095));
     let lmin = if r.once_in(3) { 1 } else { r.pick(&[lmax - 1, lmax / 2 + 1, lmax / 3 + 1]).clamp(1, lmax - 1) };
     let between = r.within(lmin, lmax);
-    Limits { lmin, lopt: r.pick(&[lmin, lmax, between, between]), lmax, a: r.pick(&[1, 1, 2, 7, 15]) }
+    Limits { lmin, lopt: r.pick(&[lmin, lmax, between, between]), lmax, a: r.pick(&[1, 1, 2, 7, 15]), space: 0 }
 }
 
 /// Page limits near the lengths; short pages with a low lmin make the pointer jump.
@@ -27,10 +44,37 @@ pub fn page_limits(r: &mut Random, widest: u32) -> PageLimits {
 
 /// Lists on which bridging by the second inequality alone often goes wrong: short words, lopt at lmax, lines of a few words.
 pub fn chord_list(r: &mut Random, most: usize) -> (Limits, Vec<u32>) {
-    let lmax = r.within(4, 12);
-    let limits = Limits { lmin: r.within(1, 2), lopt: r.pick(&[lmax, lmax, lmax - 1]), lmax, a: r.within(1, 15) };
+    let (lmax, space) = (r.within(4, 12), r.pick(&[0, 0, 1]));
+    let limits = Limits { lmin: r.within(1, 2), lopt: r.pick(&[lmax, lmax, lmax - 1]), lmax, a: r.within(1, 15), space };
     let widest = r.within(2, 3);
-    (limits, (0..r.size(5, most)).map(|_| r.within(1, widest)).collect())
+    let lengths: Vec<u32> = (0..r.size(5, most)).map(|_| r.within(1, widest)).collect();
+    (limits, spaced(&lengths, space))
+}
+
+/// Lists on which the space taken off in the crossing test often goes wrong: words little longer than their space, lmin 1.
+pub fn crossing_list(r: &mut Random, most: usize) -> (Limits, Vec<u32>) {
+    let (space, widest) = (r.pick(&[1, 1, 2, 3, 5, 255]), r.within(1, 3));
+    let lmax = r.within(space + 2, 4 * (space + widest));
+    let (inside, low) = (r.within(1, lmax), r.within(1, space + 2));
+    let limits = Limits { lmin: 1, lopt: r.pick(&[lmax, lmax - 1, inside, low]).min(lmax), lmax, a: r.within(1, 15), space };
+    let lengths: Vec<u32> = (0..r.size(4, most)).map(|_| r.within(1, widest)).collect();
+    (limits, spaced(&lengths, space))
+}
+
+/// The limits of the same paragraph with the space at the end of each line counted: each raised by it.
+pub fn raised(l: Limits) -> Limits {
+    Limits { lmin: l.lmin + l.space, lopt: l.lopt + l.space, lmax: l.lmax + l.space, a: l.a, space: 0 }
+}
+
+/// A paragraph with a space whose raised limits are limits too.
+pub fn raisable_list(r: &mut Random, most: usize) -> (Limits, Vec<u32>) {
+    loop {
+        let (lengths, widest) = short_lengths(r, most);
+        let (limits, lengths) = if r.once_in(3) { crossing_list(r, most) } else { paragraph(r, &lengths, widest) };
+        if limits.space > 0 && limits.lmax + limits.space <= 4095 {
+            return (limits, lengths);
+        }
+    }
 }
 
 /// Long lists, each with a width of its own: text, one unit, all equal, narrow, wide.
@@ -42,12 +86,18 @@ pub fn long_lengths(r: &mut Random) -> (Vec<u32>, u32) {
     ((0..n).map(|_| if equal { same } else { r.within(1, widest) }).collect(), widest)
 }
 
+/// A long paragraph of these words, a space after each.
+pub fn long_paragraph(r: &mut Random, lengths: &[u32], widest: u32) -> (Limits, Vec<u32>) {
+    let space = space(r);
+    (Limits { space, ..long_limits(r, widest + space) }, spaced(lengths, space))
+}
+
 /// Measures for long lists, from one word a line to thousands.
-pub fn long_limits(r: &mut Random, widest: u32) -> Limits {
+fn long_limits(r: &mut Random, widest: u32) -> Limits {
     let words = r.pick(&[1, 4, 12, 100, 600, 4095]);
     let lmax = widest.saturating_mul(words).clamp(2, 4095);
     let lmin = r.pick(&[1, lmax / 2, lmax * 3 / 4, lmax - 1]).clamp(1, lmax - 1);
-    Limits { lmin, lopt: r.within(lmin, lmax), lmax, a: r.within(1, 15) }
+    Limits { lmin, lopt: r.within(lmin, lmax), lmax, a: r.within(1, 15), space: 0 }
 }
 
 pub fn long_page_limits(r: &mut Random, widest: u32) -> PageLimits {
@@ -59,15 +109,15 @@ pub fn long_page_limits(r: &mut Random, widest: u32) -> PageLimits {
 /// A number just at or past some bound, or anything at all.
 fn odd_number(r: &mut Random) -> u32 {
     let any = r.bits() as u32;
-    r.pick(&[0, 1, 15, 16, 4095, 4096, 4097, 65_535, 65_536, 16_773_120, 16_773_121, u32::MAX, any])
+    r.pick(&[0, 1, 15, 16, 255, 256, 4095, 4096, 4097, 65_535, 65_536, 16_773_120, 16_773_121, u32::MAX, any])
 }
 
 /// One of the limits becomes odd.
 pub fn damaged_limits(r: &mut Random, l: Limits) -> Limits {
-    let mut numbers = [l.lmin, l.lopt, l.lmax, l.a];
-    numbers[r.size(0, 3)] = odd_number(r);
-    let [lmin, lopt, lmax, a] = numbers;
-    Limits { lmin, lopt, lmax, a }
+    let mut numbers = [l.lmin, l.lopt, l.lmax, l.a, l.space];
+    numbers[r.size(0, 4)] = odd_number(r);
+    let [lmin, lopt, lmax, a, space] = numbers;
+    Limits { lmin, lopt, lmax, a, space }
 }
 
 pub fn damaged_page_limits(r: &mut Random, l: PageLimits) -> PageLimits {
@@ -77,8 +127,13 @@ pub fn damaged_page_limits(r: &mut Random, l: PageLimits) -> PageLimits {
     PageLimits { lmin, lmax }
 }
 
-/// One or two lengths become odd; now and then the list is empty or too long.
-pub fn damaged_lengths(r: &mut Random, mut lengths: Vec<u32>) -> Vec<u32> {
+/// A length near the space as often as not, else odd.
+fn odd_length(r: &mut Random, space: u32) -> u32 {
+    if r.once_in(2) { r.pick(&[space.saturating_sub(1), space, space, space.saturating_add(1)]) } else { odd_number(r) }
+}
+
+/// One or two lengths become odd; now and then the list is empty or too long. An index has no space: 0.
+pub fn damaged_lengths(r: &mut Random, mut lengths: Vec<u32>, space: u32) -> Vec<u32> {
     match r.within(1, 40) {
         1 => return vec![],
         2 => return vec![odd_number(r); r.pick(&[4097, 4098, 5000, 9000])],
@@ -86,7 +141,7 @@ pub fn damaged_lengths(r: &mut Random, mut lengths: Vec<u32>) -> Vec<u32> {
     }
     for _ in 0..r.within(1, 2) {
         let at = r.size(0, lengths.len() - 1);
-        lengths[at] = odd_number(r);
+        lengths[at] = odd_length(r, space);
     }
     lengths
 }
@@ -106,11 +161,11 @@ pub fn packed(numbers: &[u32]) -> Vec<u8> {
     numbers.iter().flat_map(|number| number.to_le_bytes()).collect()
 }
 
-/// A whole job of either kind.
+/// A whole job of each kind.
 pub fn job(r: &mut Random) -> Vec<u8> {
     let most = r.pick(&[3, 12, 60]);
     let n = r.size(0, most);
-    let mut numbers = vec![if r.once_in(2) { 4 } else { 2 }];
+    let mut numbers = vec![r.pick(&[5, 5, 4, 2])];
     for _ in 0..numbers[0] {
         numbers.push(odd_number(r));
     }

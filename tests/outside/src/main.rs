@@ -60,20 +60,21 @@ fn set_index(tally: &mut Tally, r: &mut Random, limits: PageLimits, lengths: &[u
 /// Lists short enough to list every setting: the plain way itself is compared first.
 fn brute_lists(r: &mut Random, tally: &mut Tally) -> Done {
     let (lengths, widest) = cases::short_lengths(r, 9);
-    let (limits, pages) = (cases::limits(r, widest), cases::page_limits(r, widest));
-    let sums = paper::sums(&lengths);
-    assert_eq!(paper::paragraph_starts(limits, &sums), brute::paragraph(limits, &lengths), "{limits:?} {lengths:?}");
-    assert_eq!(paper::index_starts(pages, &lengths, &sums), brute::index(pages, &lengths), "{pages:?} {lengths:?}");
-    set_paragraph(tally, r, limits, &lengths, &paper::paragraph_room(lengths.len()))?;
+    let (limits, words) = cases::paragraph(r, &lengths, widest);
+    let pages = cases::page_limits(r, widest);
+    assert_eq!(paper::paragraph_starts(limits, &paper::sums(&words)), brute::paragraph(limits, &words), "{limits:?} {words:?}");
+    assert_eq!(paper::index_starts(pages, &lengths, &paper::sums(&lengths)), brute::index(pages, &lengths), "{pages:?} {lengths:?}");
+    set_paragraph(tally, r, limits, &words, &paper::paragraph_room(words.len()))?;
     set_index(tally, r, pages, &lengths, &paper::index_room(lengths.len()))
 }
 
 fn lists(r: &mut Random, tally: &mut Tally, most: usize) -> Done {
     let (lengths, widest) = cases::short_lengths(r, most);
     let n = lengths.len();
-    let (limits, pages) = (cases::limits(r, widest), cases::page_limits(r, widest));
+    let (limits, words) = cases::paragraph(r, &lengths, widest);
+    let pages = cases::page_limits(r, widest);
     let (lent, page_lent) = (cases::lent_enough(r, &paper::paragraph_room(n)), cases::lent_enough(r, &paper::index_room(n)));
-    set_paragraph(tally, r, limits, &lengths, &lent)?;
+    set_paragraph(tally, r, limits, &words, &lent)?;
     set_index(tally, r, pages, &lengths, &page_lent)
 }
 
@@ -90,28 +91,49 @@ fn chord_lists(r: &mut Random, tally: &mut Tally) -> Done {
     set_paragraph(tally, r, limits, &lengths, &paper::paragraph_room(lengths.len()))
 }
 
+fn crossing_lists(r: &mut Random, tally: &mut Tally) -> Done {
+    let (limits, lengths) = cases::crossing_list(r, 30);
+    set_paragraph(tally, r, limits, &lengths, &paper::paragraph_room(lengths.len()))
+}
+
+/// A paragraph with a space is the one without it whose lmin, lopt and lmax are each raised by it: the library says and writes the same.
+fn raised_limits(r: &mut Random, tally: &mut Tally) -> Done {
+    let most = r.pick(&[6, 30, 200]);
+    let (limits, lengths) = cases::raisable_list(r, most);
+    let needed = paper::paragraph_room(lengths.len());
+    let lent = if r.once_in(8) { cases::lent_near(r, &needed) } else { cases::lent_enough(r, &needed) };
+    let both = [limits, cases::raised(limits)];
+    let said = |what| format!("{what}\n  paragraph {both:?}, lengths {lengths:?}, strips lent {lent:?}");
+    let told = call::same_paragraph(both, &lengths, &lent, r).map_err(said)?;
+    tally.note(told.number, &[]);
+    tally.note(told.number, &[]);
+    Ok(())
+}
+
 fn long_lists(r: &mut Random, tally: &mut Tally) -> Done {
     let (lengths, widest) = cases::long_lengths(r);
     let n = lengths.len();
-    let (limits, pages) = (cases::long_limits(r, widest), cases::long_page_limits(r, widest));
+    let (limits, words) = cases::long_paragraph(r, &lengths, widest);
+    let pages = cases::long_page_limits(r, widest);
     let (lent, page_lent) = (cases::lent_enough(r, &paper::paragraph_room(n)), cases::lent_enough(r, &paper::index_room(n)));
-    set_paragraph(tally, r, limits, &lengths, &lent)?;
+    set_paragraph(tally, r, limits, &words, &lent)?;
     set_index(tally, r, pages, &lengths, &page_lent)
 }
 
 /// Some of limits, lengths and strips are bad, so that the order of the refusals shows.
 fn damaged_lists(r: &mut Random, tally: &mut Tally) -> Done {
     let (mut lengths, widest) = cases::short_lengths(r, 12);
-    let (mut limits, mut pages) = (cases::limits(r, widest), cases::page_limits(r, widest));
+    let (mut limits, mut words) = cases::paragraph(r, &lengths, widest);
+    let mut pages = cases::page_limits(r, widest);
     if r.once_in(2) {
         (limits, pages) = (cases::damaged_limits(r, limits), cases::damaged_page_limits(r, pages));
     }
     if r.once_in(2) {
-        lengths = cases::damaged_lengths(r, lengths);
+        (words, lengths) = (cases::damaged_lengths(r, words, limits.space), cases::damaged_lengths(r, lengths, 0));
     }
-    let n = lengths.len();
-    let (lent, page_lent) = (cases::lent_near(r, &paper::paragraph_room(n)), cases::lent_near(r, &paper::index_room(n)));
-    set_paragraph(tally, r, limits, &lengths, &lent)?;
+    let lent = cases::lent_near(r, &paper::paragraph_room(words.len()));
+    let page_lent = cases::lent_near(r, &paper::index_room(lengths.len()));
+    set_paragraph(tally, r, limits, &words, &lent)?;
     set_index(tally, r, pages, &lengths, &page_lent)
 }
 
@@ -122,13 +144,14 @@ fn thirds(number: usize, count: usize) -> Vec<usize> {
 
 /// Every strip one entry short, just enough or one entry longer, in every combination: one n a case.
 fn strip_lengths(r: &mut Random, tally: &mut Tally) -> Done {
-    let lengths: Vec<u32> = (0..r.size(1, 6)).map(|_| r.within(1, 4)).collect();
+    let space = r.within(0, 2);
+    let lengths: Vec<u32> = (0..r.size(1, 6)).map(|_| r.within(space + 1, space + 4)).collect();
     let near = |needed: Vec<usize>, number| -> Vec<usize> {
         needed.iter().zip(thirds(number, needed.len())).map(|(needed, third)| needed + third - 1).collect()
     };
     for number in 0..3usize.pow(6) {
         let lent = near(paper::paragraph_room(lengths.len()), number);
-        set_paragraph(tally, r, Limits { lmin: 1, lopt: 5, lmax: 6, a: 2 }, &lengths, &lent)?;
+        set_paragraph(tally, r, Limits { lmin: 1, lopt: 5, lmax: 6, a: 2, space }, &lengths, &lent)?;
     }
     for number in 0..3usize.pow(7) {
         let lent = near(paper::index_room(lengths.len()), number);
@@ -140,7 +163,8 @@ fn strip_lengths(r: &mut Random, tally: &mut Tally) -> Done {
 fn jobs(r: &mut Random, tally: &mut Tally) -> Done {
     let job = if r.once_in(4) { cases::job(r) } else { cases::damaged_job(r) };
     let held = job.len() / 4;
-    let room = r.pick(&[4096, 60, held, held.saturating_sub(6), held.saturating_sub(4), held.saturating_sub(5), 0]);
+    // A whole job has 7, 6 or 4 numbers that are no lengths.
+    let room = if r.once_in(2) { held.saturating_sub(r.size(3, 8)) } else { r.pick(&[4096, 60, held, 0]) };
     let number = call::job(&job, room, r).map_err(|what| format!("{what}\n  job {job:?}, lengths strip {room}"))?;
     tally.note(number, &[]);
     Ok(())
@@ -151,7 +175,7 @@ fn cut_jobs(r: &mut Random, tally: &mut Tally) -> Done {
     let mut job = cases::job(r);
     let whole = job.len();
     job.extend([9; 9]);
-    let room = r.pick(&[whole / 4, (whole / 4).saturating_sub(7), 4096]);
+    let room = r.pick(&[whole / 4, (whole / 4).saturating_sub(7), (whole / 4).saturating_sub(8), 4096]);
     for len in 0..=job.len() {
         let number = call::job(&job[..len], room, r).map_err(|what| format!("{what}\n  job {:?}, strip {room}", &job[..len]))?;
         tally.note(number, &[]);
@@ -162,7 +186,7 @@ fn cut_jobs(r: &mut Random, tally: &mut Tally) -> Done {
 /// Jobs on both sides of the most that is read, with a lengths strip on both sides of the most that is needed.
 fn long_jobs(r: &mut Random, tally: &mut Tally) -> Done {
     let n = r.within(4094, 4098);
-    let mut numbers = if r.once_in(2) { vec![4, 1, 6, 6, 1, n] } else { vec![2, 2, 7, n] };
+    let mut numbers = [vec![5, 1, 6, 6, 1, 1, n], vec![4, 1, 6, 6, 1, n], vec![2, 2, 7, n]][r.size(0, 2)].clone();
     numbers.extend((0..n).map(|_| r.within(1, 4095)));
     let mut job = cases::packed(&numbers);
     job.truncate(job.len() - r.pick(&[0, 0, 0, 1, 4]));
@@ -175,7 +199,7 @@ fn long_jobs(r: &mut Random, tally: &mut Tally) -> Done {
 
 fn penalties(r: &mut Random, tally: &mut Tally) -> Done {
     let widest = r.pick(&[3, 60, 4095]);
-    let mut limits = cases::limits(r, widest);
+    let (mut limits, _) = cases::paragraph(r, &[], widest);
     if r.once_in(4) {
         limits = cases::damaged_limits(r, limits);
     }
@@ -192,7 +216,7 @@ fn penalties(r: &mut Random, tally: &mut Tally) -> Done {
 /// The safe functions say what the raw ones say.
 fn wrapped(r: &mut Random, tally: &mut Tally) -> Done {
     let (lengths, widest) = cases::short_lengths(r, 20);
-    let limits = cases::limits(r, widest);
+    let (limits, lengths) = cases::paragraph(r, &lengths, widest);
     let mut room = hathurmo::ParagraphRoom::new(lengths.len());
     let said = hathurmo::set_paragraph(limits, &lengths, room.lend());
     let outcome = paper::paragraph(limits, &lengths, &paper::paragraph_room(lengths.len()));
@@ -208,7 +232,7 @@ fn wrapped(r: &mut Random, tally: &mut Tally) -> Done {
 /// A kind of case: its name, how many there are, and one of them.
 type Kind = (&'static str, usize, fn(&mut Random, &mut Tally) -> Done);
 
-const KINDS: [Kind; 12] = [
+const KINDS: [Kind; 14] = [
     ("every setting listed", 128_000, brute_lists),
     ("short lists", 240_000, short_lists),
     ("lists up to 400", 16_000, middle_lists),
@@ -221,6 +245,8 @@ const KINDS: [Kind; 12] = [
     ("jobs of about 4096 lengths", 1_600, long_jobs),
     ("penalties alone", 250_000, penalties),
     ("the safe wrapper", 30_000, wrapped),
+    ("crossing lists with a space", 96_000, crossing_lists),
+    ("a space and raised limits", 80_000, raised_limits),
 ];
 
 fn run_part(kind: usize, part: usize) -> Result<Tally, String> {
@@ -267,7 +293,7 @@ fn report(tallies: &[Tally]) {
     println!("{:>9} calls in all: {}", all.calls, join(&names, &all.numbers).join(", "));
     println!("moves compared: {}", join(&kinds[1..], &all.kinds[1..]).join(", "));
     assert!(all.numbers.iter().all(|&count| count > 0) && all.kinds[1..].iter().all(|&count| count > 0));
-    println!("every answer and every entry as document 01 says");
+    println!("every answer and every entry as documents 01 and 02 say");
 }
 
 fn main() {

@@ -1,5 +1,5 @@
-//! Document 01 once more, as plainly as can be: for each start every next is tried. Only the moves need the queue and pointer
-//! rules; these run over bests that were found the plain way, and must come to the same nexts.
+//! Document 01 once more, with the space of W-202, as plainly as can be: for each start every next is tried. Only the moves need the
+//! queue and pointer rules; these run over bests that were found the plain way, and must come to the same nexts.
 use hathurmo::raw::{Limits, PageLimits, Told};
 use hathurmo::NO_SETTING;
 use std::collections::VecDeque;
@@ -40,7 +40,8 @@ fn penalty(l: Limits, x: u32) -> u64 {
 // ---- refusals 1 to 5 ----
 
 pub fn limits_hold(l: Limits) -> bool {
-    (1..=l.lopt).contains(&l.lmin) && (l.lopt..=4095).contains(&l.lmax) && l.lmin != l.lmax && (1..=15).contains(&l.a)
+    let measure = (1..=l.lopt).contains(&l.lmin) && (l.lopt..=4095).contains(&l.lmax) && l.lmin != l.lmax;
+    measure && (1..=15).contains(&l.a) && l.space <= 255
 }
 
 pub fn page_limits_hold(l: PageLimits) -> bool {
@@ -55,7 +56,8 @@ pub fn index_room(n: usize) -> Vec<usize> {
     vec![n + 1, n + 2, n + 2, n + 2, n + 2, 2 * n, n]
 }
 
-fn refused(limits_good: bool, lengths: &[u32], needed: &[usize], lent: &[usize]) -> Option<Told> {
+/// An index has no space: 0.
+fn refused(limits_good: bool, space: u32, lengths: &[u32], needed: &[usize], lent: &[usize]) -> Option<Told> {
     match lengths.len() {
         0 => return Some(told(1, 0)),
         1..=4096 => {}
@@ -64,7 +66,7 @@ fn refused(limits_good: bool, lengths: &[u32], needed: &[usize], lent: &[usize])
     if !limits_good {
         return Some(told(3, 0));
     }
-    if let Some(word) = lengths.iter().position(|x| !(1..=4095).contains(x)) {
+    if let Some(word) = lengths.iter().position(|&x| x == 0 || x > 4095 || x <= space) {
         return Some(told(4, word + 1));
     }
     let short = needed.iter().zip(lent).position(|(needed, lent)| lent < needed)?;
@@ -103,7 +105,7 @@ pub fn paragraph_starts(l: Limits, sums: &[u32]) -> Starts {
     for i in (1..=n).rev() {
         let (mut best, mut next) = (NO_SETTING, 0);
         for j in i + 1..=n + 1 {
-            let x = sums[j - 1] - sums[i - 1];
+            let x = sums[j - 1] - sums[i - 1] - l.space;
             if x > l.lmax {
                 break;
             }
@@ -131,8 +133,14 @@ struct Queue<'a> {
 }
 
 impl Queue<'_> {
-    fn line(&self, i: usize, j: usize) -> u64 {
+    /// The plain sum of words i to j-1.
+    fn apart(&self, i: usize, j: usize) -> u64 {
         u64::from(self.sums[j - 1] - self.sums[i - 1])
+    }
+
+    /// Line(i, j): less the space after its last word, where it has one.
+    fn line(&self, i: usize, j: usize) -> u64 {
+        if i < j { self.apart(i, j) - u64::from(self.l.space) } else { 0 }
     }
 
     fn through(&self, i: usize, j: usize) -> u64 {
@@ -143,10 +151,11 @@ impl Queue<'_> {
         self.line(i, j) > u64::from(self.l.lmax)
     }
 
+    /// Between two break points the space cancels: the sums are plain.
     fn bridged(&self, j: usize, k: usize, l: usize) -> bool {
         let [bj, bk, bl] = [j, k, l].map(|index| u128::from(self.best[index - 1]));
-        let at_edge = |index| u128::from(penalty(self.l, self.l.lmax - self.line(index, l) as u32));
-        let [jk, kl, jl] = [(j, k), (k, l), (j, l)].map(|(from, to)| u128::from(self.line(from, to)));
+        let at_edge = |index| u128::from(penalty(self.l, self.l.lmax - self.apart(index, l) as u32));
+        let [jk, kl, jl] = [(j, k), (k, l), (j, l)].map(|(from, to)| u128::from(self.apart(from, to)));
         bk + at_edge(k) >= bj + at_edge(j) && jl * bk >= jk * bl + kl * bj + u128::from(self.l.a) * jk * jl * kl
     }
 
@@ -205,7 +214,7 @@ fn queue_moves(l: Limits, sums: &[u32], starts: &Starts) -> Vec<u32> {
     let mut candidate = n + 1;
     for i in (1..=n).rev() {
         candidate = queue.at_start(i, candidate);
-        if sums[n] - sums[i - 1] > l.lopt {
+        if sums[n] - sums[i - 1] - l.space > l.lopt {
             let front = queue.members.front().map_or(0, |&front| front as u32);
             assert_eq!(front, starts.next[i - 1], "the front is the chosen next of start {i}");
         }
@@ -216,7 +225,7 @@ fn queue_moves(l: Limits, sums: &[u32], starts: &Starts) -> Vec<u32> {
 
 pub fn paragraph(l: Limits, lengths: &[u32], lent: &[usize]) -> Outcome {
     let n = lengths.len();
-    if let Some(told) = refused(limits_hold(l), lengths, &paragraph_room(n), lent) {
+    if let Some(told) = refused(limits_hold(l), l.space, lengths, &paragraph_room(n), lent) {
         return untouched(told, 5);
     }
     let sums = sums(lengths);
@@ -332,7 +341,7 @@ fn pointer_moves(l: PageLimits, sums: &[u32], starts: &Starts) -> Vec<u32> {
 
 pub fn index(l: PageLimits, lengths: &[u32], lent: &[usize]) -> Outcome {
     let n = lengths.len();
-    if let Some(told) = refused(page_limits_hold(l), lengths, &index_room(n), lent) {
+    if let Some(told) = refused(page_limits_hold(l), 0, lengths, &index_room(n), lent) {
         return untouched(told, 6);
     }
     let sums = sums(lengths);
@@ -352,6 +361,7 @@ pub fn index(l: PageLimits, lengths: &[u32], lent: &[usize]) -> Outcome {
 
 // ---- the penalty alone and the job reader ----
 
+/// The length is the line's own, the space already off.
 pub fn penalty_alone(l: Limits, length: u32) -> Told {
     if !limits_hold(l) {
         return told(3, 0);
@@ -370,7 +380,7 @@ pub fn read_job(job: &[u8], room: usize) -> Result<(u32, Vec<u32>, Vec<u32>), (u
         None => Err((7, 4 * k)),
     };
     let count = number(0)?;
-    if count != 4 && count != 2 {
+    if ![5, 4, 2].contains(&count) {
         return Err((7, 0));
     }
     let head = count as usize + 1;

@@ -3,10 +3,16 @@ use native.Mathlib.Omega.{arith}
 use mathlib.Core.Path.{sym}
 use denote.Ref.{now}
 use lib.Seq.{length-take-le}
+use Rattle.strips.specs.Words.{passed-sums}
 use Rattle.breaks.proofs.Filling.{filling-starts, filling-done}
 use borrow.Author.Needs.{needs}
 use Rattle.breaks.proofs.fill.Statement.{statement}
 use Rattle.breaks.proofs.fill.Tie as tie
+
+fill-sums-requires : tie.Need-fill-sums-requires
+fill-sums-requires c κs =
+    let pre = c .before .before .before .before .before .before .before .pre in
+    passed-sums (pre .passed) (omega (arith, pre .sums))
 
 slice-aggregate-starts : tie.Need-slice-aggregate-starts
 slice-aggregate-starts c =
@@ -53,7 +59,7 @@ pub fill-spec : {M : Type 1} → statement M
 fill-spec =
     tie.close
     (tie.spec
-    (λ c κs. search needs)
+    fill-sums-requires
     (λ c. search needs)
     (λ c. search needs)
     slice-aggregate-starts

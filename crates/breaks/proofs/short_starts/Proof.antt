@@ -1,5 +1,6 @@
 -- `breaks::short_starts` meets its contract. Assumes nothing.
 use native.Mathlib.Omega.{arith}
+use Rattle.paper_theory.specs.Ranges.{ranges}
 use Rattle.breaks.specs.Asks.{Begun}
 use Rattle.breaks.proofs.Beginning.{short-size, begun-first, begun-rise, begun-more}
 use Rattle.breaks.proofs.short_starts.Statement.{statement}
@@ -29,31 +30,36 @@ slice-write-next c = omega (arith, short-size (c .pre), c .pre .next)
 loop-holds : tie.Need-loop-holds Inv-loop μ-loop
 loop-holds c = begun-first (c .pre)
 
+add-if1 : tie.Need-add-if1 Inv-loop μ-loop
+add-if1 c =
+    let r = ranges _ (c .before .before .before .pre .holds .passed .limits) in
+    omega (arith, r .lopt-low, r .lopt-high, r .lmax-high, r .space-high)
+
 mul-if1 : tie.Need-mul-if1 Inv-loop μ-loop
-mul-if1 c = omega (arith, short-size (c .before .before .pre), c .before .before .pre .holds .passed .few)
+mul-if1 c = omega (arith, short-size (c .before .before .before .pre), c .before .before .before .pre .holds .passed .few)
 
 shared-slice-read-if1 : tie.Need-shared-slice-read-if1 Inv-loop μ-loop
-shared-slice-read-if1 c = omega (arith, short-size (c .before .before .before .pre))
+shared-slice-read-if1 c = omega (arith, short-size (c .before .before .before .before .pre))
 
 sub-if1 : tie.Need-sub-if1 Inv-loop μ-loop
-sub-if1 c = omega (arith, c .before .loop-test .taken)
+sub-if1 c = omega (arith, c .before .before .loop-test .taken)
 
 mul-if1-2 : tie.Need-mul-if1-2 Inv-loop μ-loop
 mul-if1-2 c =
-    let pre = c .before .before .before .pre in
-    let loop = c .before .before .loop in
-    let loop-test = c .before .loop-test in
+    let pre = c .before .before .before .before .pre in
+    let loop = c .before .before .before .loop in
+    let loop-test = c .before .before .loop-test in
     omega (arith, loop-test .taken, loop .inv .low, pre .holds .passed .few)
 
 shared-slice-read-if1-2 : tie.Need-shared-slice-read-if1-2 Inv-loop μ-loop
 shared-slice-read-if1-2 c =
-    let pre = c .before .before .before .before .pre in
-    let loop = c .before .before .before .loop in
-    let loop-test = c .before .before .loop-test in
+    let pre = c .before .before .before .before .before .pre in
+    let loop = c .before .before .before .before .loop in
+    let loop-test = c .before .before .before .loop-test in
     omega (arith, loop-test .taken, loop .inv .low, short-size pre)
 
 sub-if1-2 : tie.Need-sub-if1-2 Inv-loop μ-loop
-sub-if1-2 c = begun-rise (c .before .before .before .loop .inv) (c .before .before .loop-test .taken)
+sub-if1-2 c = begun-rise (c .before .before .before .before .loop .inv) (c .before .before .before .loop-test .taken)
 
 sub-i : tie.Need-sub-i Inv-loop μ-loop
 sub-i c = omega (arith, c .before .before .before .before .loop-test .taken)
@@ -96,7 +102,7 @@ loop-again : tie.Need-loop-again Inv-loop μ-loop
 loop-again c =
     let loop = c .before .before .before .before .before .loop in
     let loop-test = c .before .before .before .before .loop-test in
-    begun-more (loop .inv) (loop-test .taken) (c .if1 .left)
+    begun-more (loop .inv) (loop-test .taken) (omega (arith, c .if1 .left))
 
 same-length : tie.Need-same-length Inv-loop μ-loop
 same-length c = omega (arith, c .before .loop .inv .done .bests .size, c .before .before .pre .best, short-size (c .before .before .pre))
@@ -134,6 +140,7 @@ short-starts-spec =
     mul-next
     slice-write-next
     loop-holds
+    add-if1
     mul-if1
     shared-slice-read-if1
     sub-if1

@@ -3,60 +3,66 @@ use mathlib.Core.Path.{_≡_}
 use native.Mathlib.Omega.{arith}
 use borrow.Author.Needs.{needs}
 use Rattle.breaks.proofs.Agreeing.{held-bests}
-use Rattle.breaks.proofs.Starting.{Started, started-length, started-room, started-place, started-asks}
+use Rattle.breaks.proofs.Starting.{Started, started-length, started-room, started-moving, started-asks}
 use Rattle.breaks.proofs.Starting.{started-fits, started-settle, started-next}
 use Rattle.breaks.proofs.Beginning.{begun-started}
-use Rattle.breaks.proofs.Ends.{many, roomy, started-done}
+use Rattle.breaks.proofs.Ends.{many, roomy, first-begins, started-done}
 use Rattle.breaks.proofs.starts.Statement.{statement}
 use Rattle.breaks.proofs.starts.Tie as tie
 
 abbrev Inv-loop : tie.InvT-loop
-Inv-loop l sums best₀ next₀ queue₀ moves₀ q₀ last i₀ best next queue moves q i = Started l sums moves₀ queue best next moves q i
+Inv-loop l sums best₀ next₀ queue₀ moves₀ q₀ last first i₀ best next queue moves q i = Started l sums moves₀ queue best next moves q i
 
 abbrev μ-loop : tie.MeasureT-loop
-μ-loop l sums best₀ next₀ queue₀ moves₀ q₀ last i₀ best next queue moves q i = i
+μ-loop l sums best₀ next₀ queue₀ moves₀ q₀ last first i₀ best next queue moves q i = i
 
 sub-last : tie.Need-sub-last Inv-loop μ-loop
 sub-last c = omega (arith, c .before .before .before .before .before .pre .queue)
 
 -- the stops of a turn, from the last back to the function's start
-abbrev measured : tie.After-at-start Inv-loop μ-loop → tie.After-measure-from Inv-loop μ-loop
+abbrev measured : tie.After-at-start Inv-loop μ-loop → tie.After-moved Inv-loop μ-loop
 measured ran = ran .before .before .before .before
 
-abbrev entered : tie.After-measure-from Inv-loop μ-loop → tie.In-loop Inv-loop μ-loop
+abbrev entered : tie.After-moved Inv-loop μ-loop → tie.In-loop Inv-loop μ-loop
 entered placed = placed .before .before
 
+abbrev lined : tie.At-loop Inv-loop μ-loop → tie.After-measure-from Inv-loop μ-loop
+lined at = at .before .before .before .before .before .before .before .before
+
 abbrev begun : tie.At-loop Inv-loop μ-loop → tie.Start Inv-loop μ-loop
-begun at = at .before .before .before .before .before .before .before .before .before .before .before .before .before .before
+begun at = at .before .before .before .before .before .before .before .before .before .before .before .before .before .before .before
+
+measure-from-requires : tie.Need-measure-from-requires Inv-loop μ-loop
+measure-from-requires c κs = first-begins (c .before .before .before .before .before .before .pre)
 
 short-starts-requires : tie.Need-short-starts-requires Inv-loop μ-loop
 short-starts-requires c κs =
-    let pre = c .before .before .before .before .before .before .before .before .pre in
+    let pre = c .before .before .before .before .before .before .before .before .before .pre in
     record { holds = pre .holds; best = pre .best; next = pre .next }
 
 loop-holds : tie.Need-loop-holds Inv-loop μ-loop
 loop-holds c =
     let begins = c .before .before .before .before in
-    let pre = begins .before .before .before .before .before .before .before .before .before .pre in
+    let pre = begins .before .before .before .before .before .before .before .before .before .before .pre in
     begun-started (begins .short-starts .ensures) _ _ (pre .queue)
 
-sub-measure-from : tie.Need-sub-measure-from Inv-loop μ-loop
-sub-measure-from c = omega (arith, c .loop-test .taken)
+sub-moved : tie.Need-sub-moved Inv-loop μ-loop
+sub-moved c = omega (arith, c .loop-test .taken)
 
-mul-measure-from : tie.Need-mul-measure-from Inv-loop μ-loop
-mul-measure-from c =
+mul-moved : tie.Need-mul-moved Inv-loop μ-loop
+mul-moved c =
     let start = begun (c .before) in
     omega (arith, c .loop-test .taken, c .before .loop .inv .low, start .pre .queue, many (start .pre), start .good)
 
-shared-slice-read-measure-from : tie.Need-shared-slice-read-measure-from Inv-loop μ-loop
-shared-slice-read-measure-from c =
+shared-slice-read-moved : tie.Need-shared-slice-read-moved Inv-loop μ-loop
+shared-slice-read-moved c =
     let at = c .before .before in
     omega (arith, c .before .loop-test .taken, at .loop .inv .low, begun at .pre .queue, many (begun at .pre))
 
-measure-from-requires : tie.Need-measure-from-requires Inv-loop μ-loop
-measure-from-requires c κs =
+moved-requires : tie.Need-moved-requires Inv-loop μ-loop
+moved-requires c κs =
     let at = c .before .before in
-    started-place (at .loop .inv) (roomy (begun at .pre)) (c .before .loop-test .taken)
+    started-moving (at .loop .inv) (roomy (begun at .pre)) (c .before .loop-test .taken) (lined at .measure-from .ensures)
 
 mul-at-start : tie.Need-mul-at-start Inv-loop μ-loop
 mul-at-start c =
@@ -79,26 +85,26 @@ at-start-requires : tie.Need-at-start-requires Inv-loop μ-loop
 at-start-requires c κs =
     let placed = c .before .before .before in
     let at = entered placed .before in
-    started-asks (at .loop .inv) (roomy (begun at .pre)) (entered placed .loop-test .taken) _ (placed .measure-from .ensures .0)
-    (placed .measure-from .ensures .1)
+    started-asks (at .loop .inv) (roomy (begun at .pre)) (entered placed .loop-test .taken) (lined at .measure-from .ensures) _
+    (placed .moved .ensures)
 
 settle-requires : tie.Need-settle-requires Inv-loop μ-loop
 settle-requires c κs =
     let ran = c .before .before .before .before .before .before .before in
     let placed = measured ran in
     let at = entered placed .before in
-    started-settle (at .loop .inv) (roomy (begun at .pre)) (entered placed .loop-test .taken) _ (placed .measure-from .ensures .0)
-    (placed .measure-from .ensures .1) _ _ _ (ran .at-start .ensures)
+    started-settle (at .loop .inv) (roomy (begun at .pre)) (entered placed .loop-test .taken) (lined at .measure-from .ensures) _
+    (placed .moved .ensures) _ _ _ (ran .at-start .ensures)
 
-add-t23 : tie.Need-add-t23 Inv-loop μ-loop
-add-t23 c =
+add-t24 : tie.Need-add-t24 Inv-loop μ-loop
+add-t24 c =
     let ran = c .before .before .before .before .before .before .before .before .before .before .before .before .before in
     let placed = measured ran in
     let at = entered placed .before in
     omega (
       arith,
-      started-fits (at .loop .inv) (roomy (begun at .pre)) (entered placed .loop-test .taken) _ (placed .measure-from .ensures .0)
-          (placed .measure-from .ensures .1) _ _ _ (ran .at-start .ensures),
+      started-fits (at .loop .inv) (roomy (begun at .pre)) (entered placed .loop-test .taken) (lined at .measure-from .ensures) _
+          (placed .moved .ensures) _ _ _ (ran .at-start .ensures),
       begun at .good,
     )
 
@@ -117,8 +123,8 @@ loop-again c =
     let ran = c .before .before .before .before .before .before .before .before .before .before .before .before .before in
     let placed = measured ran in
     let at = entered placed .before in
-    started-next (at .loop .inv) (roomy (begun at .pre)) (entered placed .loop-test .taken) _ (placed .measure-from .ensures .0)
-    (placed .measure-from .ensures .1) _ _ _ (ran .at-start .ensures) _ _ (c .before .before .before .before .before .settle .ensures)
+    started-next (at .loop .inv) (roomy (begun at .pre)) (entered placed .loop-test .taken) (lined at .measure-from .ensures) _
+    (placed .moved .ensures) _ _ _ (ran .at-start .ensures) _ _ (c .before .before .before .before .before .settle .ensures)
 
 same-length : tie.Need-same-length Inv-loop μ-loop
 same-length c = omega (arith, held-bests _ _ _ _ (c .before .loop .inv .done), begun (c .before) .pre .best)
@@ -146,19 +152,20 @@ starts-spec =
     sub-last
     (λ c. search needs)
     (λ c. search needs)
+    measure-from-requires
     short-starts-requires
     loop-holds
-    sub-measure-from
-    mul-measure-from
-    shared-slice-read-measure-from
-    measure-from-requires
+    sub-moved
+    mul-moved
+    shared-slice-read-moved
+    moved-requires
     mul-at-start
     sub-at-start
     part-at-start-start
     (λ c. search needs)
     at-start-requires
     settle-requires
-    add-t23
+    add-t24
     sub-i
     loop-less
     loop-again

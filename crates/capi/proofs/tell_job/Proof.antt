@@ -13,5 +13,5 @@ tell-job-spec =
     (λ c κs. search needs)
     (λ c. search needs)
     (λ c κs. search needs)
-    (λ c. rw (c .before .before .j .given .1) (c .tell-asked .ensures))
+    (λ c. rw (c .before .before .j .given .1) (c .tell-read .ensures))
     (λ c. rw (c .before .before .j2 .given .1, c .tell-refusal .ensures)))

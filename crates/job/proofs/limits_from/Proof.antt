@@ -30,7 +30,7 @@ returns-2 c =
     let test = section .before .before .before in
     let known = sym (test .before .announced .ensures) ∙ not-false (test .before .announced .result) (test .if1 .left) in
     let read = rw (lent-is (now (test .before .before .before .before .args .job)) 4) at (section .section .ensures) in
-    refused (limits-cut _ _ _ known 4 read (c .if2 .taken)) refl
+    refused (limits-cut _ _ _ known 5 read (c .if2 .taken)) refl
 
 returns-3 : tie.Need-returns-3
 returns-3 c =
@@ -39,12 +39,12 @@ returns-3 c =
     let test = section .before .before .before in
     let known = sym (test .before .announced .ensures) ∙ not-false (test .before .announced .result) (test .if1 .left) in
     let read = rw (lent-is (now (test .before .before .before .before .args .job)) 4) at (section .section .ensures) in
-    rw (limits-whole _ _ _ known 4 read (limits .before .before .if2 .left), ← limits .asked-by .ensures)
+    rw (limits-whole _ _ _ known 5 read (limits .before .before .if2 .left), ← limits .asked-by .ensures)
     (c .before .before .lengths-after .ensures)
 
 pub limits-from-spec : {M : Type 1} → statement M
 limits-from-spec =
     tie.close
     (tie.spec (λ c κs. search needs) returns (λ c. search needs) (λ c. search needs) (λ c. search needs) (λ c. search needs)
-    section-requires (λ c. search needs) (λ c. search needs) returns-2 (λ c. search needs) (λ c. search needs) (λ c. search needs)
-    (λ c κs. search needs) (λ c κs. search needs) (λ c. search needs) returns-3)
+    section-requires (λ c. search needs) (λ c. search needs) returns-2 (λ c. search needs) (λ c κs. search needs) (λ c. search needs)
+    (λ c. search needs) (λ c κs. search needs) (λ c. search needs) returns-3)

@@ -1,9 +1,15 @@
 -- `pages::fill` meets its contract. Assumes nothing.
 use borrow.Author.Needs.{needs}
 use native.Mathlib.Omega.{arith}
+use Rattle.strips.specs.Words.{passed-sums}
 use Rattle.pages.proofs.Parts.{part-size, fill-starts, fill-done}
 use Rattle.pages.proofs.fill.Statement.{statement}
 use Rattle.pages.proofs.fill.Tie as tie
+
+fill-sums-requires : tie.Need-fill-sums-requires
+fill-sums-requires c κs =
+    let pre = c .before .before .before .before .before .before .before .before .pre in
+    passed-sums (pre .passed) (omega (arith, pre .sums))
 
 slice-aggregate-starts : tie.Need-slice-aggregate-starts
 slice-aggregate-starts c =
@@ -27,7 +33,7 @@ pub fill-spec : {M : Type 1} → statement M
 fill-spec =
     tie.close
     (tie.spec
-    (λ c κs. search needs)
+    fill-sums-requires
     (λ c. search needs)
     (λ c. search needs)
     slice-aggregate-starts

@@ -11,10 +11,11 @@ use Rattle.refusals.proofs.first_bad.Statement.{statement}
 use Rattle.refusals.proofs.first_bad.Tie as tie
 
 abbrev Inv-loop : tie.InvT-loop
-Inv-loop lengths k₀ k = (k ≤ length lengths) × (firstFailing lengthHolds (k + 1) (drop k lengths) ≡ firstFailing lengthHolds 1 lengths)
+Inv-loop space lengths k₀ k =
+    (k ≤ length lengths) × (firstFailing (lengthHolds space) (k + 1) (drop k lengths) ≡ firstFailing (lengthHolds space) 1 lengths)
 
 abbrev μ-loop : tie.MeasureT-loop
-μ-loop lengths k₀ k = length lengths - k
+μ-loop space lengths k₀ k = length lengths - k
 
 loop-holds : tie.Need-loop-holds Inv-loop μ-loop
 loop-holds c = (search needs, refl)
@@ -23,7 +24,7 @@ returns : tie.Need-returns Inv-loop μ-loop
 returns c =
     let inside = c .before .before .before in
     let holds = c .before .length-holds in
-    sym (failing-here _ _ lengthHolds (inside .loop-test .taken) (sym (holds .ensures) ∙ not-true (holds .result) (c .if1 .taken)))
+    sym (failing-here _ _ (lengthHolds _) (inside .loop-test .taken) (sym (holds .ensures) ∙ not-true (holds .result) (c .if1 .taken)))
     ∙ inside .before .loop .inv .1
 
 loop-again : tie.Need-loop-again Inv-loop μ-loop
@@ -31,12 +32,12 @@ loop-again c =
     let inside = c .before .before .before in
     let holds = c .before .length-holds in (
       search needs,
-      sym (failing-later _ _ lengthHolds (inside .loop-test .taken) (sym (holds .ensures) ∙ not-false (holds .result) (c .if1 .left)))
+      sym (failing-later _ _ (lengthHolds _) (inside .loop-test .taken) (sym (holds .ensures) ∙ not-false (holds .result) (c .if1 .left)))
           ∙ inside .before .loop .inv .1,
     )
 
 returns-2 : tie.Need-returns-2 Inv-loop μ-loop
-returns-2 c = sym (failing-never _ _ lengthHolds (c .loop-test .left)) ∙ c .before .loop .inv .1
+returns-2 c = sym (failing-never _ _ (lengthHolds _) (c .loop-test .left)) ∙ c .before .loop .inv .1
 
 pub first-bad-spec : {M : Type 1} → statement M
 first-bad-spec =

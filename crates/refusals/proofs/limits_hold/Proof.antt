@@ -15,4 +15,5 @@ limits-hold-spec =
     (λ c. limits-fail _ (λ r. omega arith))
     (λ c. limits-fail _ (λ r. omega arith))
     (λ c. limits-fail _ (λ r. omega arith))
+    (λ c. limits-fail _ (λ r. omega arith))
     (λ c. limits-kept _ (omega arith)))

@@ -23,7 +23,7 @@ add-total c =
     let pre = c .before .before .before .pre in
     let loop = c .before .before .loop in
     let loop-test = c .before .loop-test in
-    omega (arith, filling-fits (loop .inv) (loop-test .taken) (pre .allowed) (pre .few))
+    omega (arith, filling-fits (loop .inv) (loop-test .taken) (pre .space) (pre .allowed) (pre .few))
 
 mul-sums : tie.Need-mul-sums Inv-loop μ-loop
 mul-sums c = omega (arith, c .before .before .before .pre, c .before .before .before .good)

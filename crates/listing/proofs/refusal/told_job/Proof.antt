@@ -4,17 +4,22 @@ use mathlib.Core.Path.{refl}
 use borrow.Author.Needs.{needs}
 use Rattle.refusals.specs.Tells.{Tells}
 use Rattle.job.specs.declared.Asked.{Asked}
+use Rattle.job.specs.declared.JobLimits.{JobLimits}
 use Rattle.job.specs.declared.Asked.the-variants.{Paragraph, Index}
 use Rattle.job.specs.declared.Job.the-variants.{Read}
-use Rattle.job.specs.Promise.{toldJob}
+use Rattle.job.specs.Promise.{toldLimits, toldJob}
 use Rattle.listing.proofs.refusal.told_job.Statement.{statement}
 use Rattle.listing.proofs.refusal.told_job.Tie as tie
 
-told-read : (asked : Asked) (n : ℕ) →
-    Tells (toldJob (Read asked n) .number) (toldJob (Read asked n) .place) (record { number = 0; place = 0 })
+told-read : (limits : JobLimits) (n : ℕ) →
+    Tells (toldJob (Read limits n) .number) (toldJob (Read limits n) .place) (record { number = 0; place = 0 })
 unfolding toldJob
-told-read (Paragraph l) n = record { is-number = refl; is-place = refl }
-told-read (Index l) n = record { is-number = refl; is-place = refl }
+told-read limits n = go (limits .asked)
+  where
+    go : (asked : Asked) →
+        Tells (toldLimits (limits .count) asked n .number) (toldLimits (limits .count) asked n .place) (record { number = 0; place = 0 })
+    go (Paragraph l) = record { is-number = refl; is-place = refl }
+    go (Index l) = record { is-number = refl; is-place = refl }
 
 returns : tie.Need-returns
 returns c = rw (c .enum-told .given .1) (told-read _ _)

@@ -11,14 +11,14 @@ unfolding indexOutcome indexChecked
 returns c =
     let check = c .before .before .before in
     let hold = check .before .before .before .page-limits-hold in
-    refusal-kept _ _ _ _ (hold .ensures) (check .check .ensures) _ _ (c .before .checked .given .1)
+    refusal-kept _ _ _ _ _ (hold .ensures) (check .check .ensures) _ _ (c .before .checked .given .1)
 
 page-requires : tie.Need-page-requires
 page-requires c κs =
     let told = c .before .before .before .before .before .before .before in
     let check = told .before .before in
     let hold = check .before .before .before .page-limits-hold in
-    index-passes _ _ _ (found-is _ _ _ _ (hold .ensures) (check .check .ensures) (told .enum-told .given .1))
+    index-passes _ _ _ (found-is _ _ _ _ _ (hold .ensures) (check .check .ensures) (told .enum-told .given .1))
 
 returns-2 : tie.Need-returns-2
 unfolding indexOutcome indexChecked
@@ -28,7 +28,7 @@ returns-2 c =
     let check = told .before .before in
     let hold = check .before .before .before .page-limits-hold in
     let is = page .page .ensures in
-    setting-kept _ _ _ _ (hold .ensures) (check .check .ensures) _ _ (told .enum-told .given .1)
+    setting-kept _ _ _ _ _ (hold .ensures) (check .check .ensures) _ _ (told .enum-told .given .1)
     (ap (λ (o : IndexOutcome). o .answer) is) (ap (λ (o : IndexOutcome). o .strips) is)
 
 pub set-index-spec : {M : Type 1} → statement M

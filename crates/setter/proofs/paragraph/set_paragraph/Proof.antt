@@ -10,14 +10,14 @@ unfolding paragraphOutcome paragraphChecked
 returns c =
     let check = c .before .before .before in
     let hold = check .before .before .before .limits-hold in
-    refusal-kept _ _ _ _ (hold .ensures) (check .check .ensures) _ _ (c .before .checked .given .1)
+    refusal-kept _ _ _ _ _ (hold .ensures) (check .check .ensures) _ _ (c .before .checked .given .1)
 
 set-requires : tie.Need-set-requires
 set-requires c κs =
     let told = c .before .before .before .before .before .before in
     let check = told .before .before in
     let hold = check .before .before .before .limits-hold in
-    paragraph-passes _ _ _ (found-is _ _ _ _ (hold .ensures) (check .check .ensures) (told .enum-told .given .1))
+    paragraph-passes _ _ _ (found-is _ _ _ _ _ (hold .ensures) (check .check .ensures) (told .enum-told .given .1))
 
 returns-2 : tie.Need-returns-2
 unfolding paragraphOutcome paragraphChecked
@@ -27,7 +27,7 @@ returns-2 c =
     let check = told .before .before in
     let hold = check .before .before .before .limits-hold in
     let is = set .set .ensures in
-    setting-kept _ _ _ _ (hold .ensures) (check .check .ensures) _ _ (told .enum-told .given .1) (is .tells) (is .strips)
+    setting-kept _ _ _ _ _ (hold .ensures) (check .check .ensures) _ _ (told .enum-told .given .1) (is .tells) (is .strips)
 
 pub set-paragraph-spec : {M : Type 1} → statement M
 set-paragraph-spec =

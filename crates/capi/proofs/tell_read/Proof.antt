@@ -1,13 +1,13 @@
--- `capi::tell_asked` meets its contract. Assumes nothing.
+-- `capi::tell_read` meets its contract. Assumes nothing.
 use Rattle.job.specs.Promise.{toldJob}
 use native.Mathlib.Nat.{add-zero, zero-add}
 use borrow.Author.Needs.{needs}
-use Rattle.capi.proofs.tell_asked.Statement.{statement}
-use Rattle.capi.proofs.tell_asked.Tie as tie
+use Rattle.capi.proofs.tell_read.Statement.{statement}
+use Rattle.capi.proofs.tell_read.Tie as tie
 
-pub tell-asked-spec : {M : Type 1} → statement M
+pub tell-read-spec : {M : Type 1} → statement M
 unfolding toldJob
-tell-asked-spec =
+tell-read-spec =
     tie.close
     (tie.spec
     (λ c. search needs)
