@@ -6,8 +6,8 @@ typedef struct {
     uint32_t lmin, lopt, lmax, a;
 } Four;
 
-HathurmoTold four_set_paragraph(Four, const uint32_t *, size_t, uint32_t *, size_t, uint64_t *, size_t, uint32_t *, size_t, uint32_t *, size_t,
-                                uint32_t *, size_t, uint32_t *, size_t);
+HathurmoTold four_set_paragraph(Four, const uint32_t *, size_t, uint32_t *, size_t, uint64_t *, size_t, uint32_t *, size_t, uint32_t *,
+                                size_t, uint32_t *, size_t, uint32_t *, size_t);
 
 HathurmoTold hathurmo_set_paragraph(HathurmoLimits l, const uint32_t *lengths, size_t n, uint32_t *sums, size_t sums_len, uint64_t *best,
                                     size_t best_len, uint32_t *next, size_t next_len, uint32_t *queue, size_t queue_len, uint32_t *moves,

@@ -30,9 +30,9 @@ module _ {l : Limits} {S B N Q m : List ℕ} (a : StartsAsk l S B N Q m) where
   pub roomy : 2 * length ws ≤ length m
   roomy = omega (arith, many, a .moves)
 
-  -- the first word's lines begin at the space
-  pub first-begins : Beginning l (l .space)
-  first-begins =
+  -- a measure may begin at the space, and before it
+  pub first-begins : {at : ℕ} → at ≤ l .space → Beginning l at
+  first-begins h =
       let r = ranges l (a .holds .passed .limits) in
       record { ranges = r; bounded = omega (arith, r .lmax-high, r .space-high) }
 

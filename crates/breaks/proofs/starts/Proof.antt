@@ -33,7 +33,7 @@ abbrev begun : tie.At-loop Inv-loop μ-loop → tie.Start Inv-loop μ-loop
 begun at = at .before .before .before .before .before .before .before .before .before .before .before .before .before .before .before
 
 measure-from-requires : tie.Need-measure-from-requires Inv-loop μ-loop
-measure-from-requires c κs = first-begins (c .before .before .before .before .before .before .pre)
+measure-from-requires c κs = first-begins (c .before .before .before .before .before .before .pre) (omega arith)
 
 short-starts-requires : tie.Need-short-starts-requires Inv-loop μ-loop
 short-starts-requires c κs =
@@ -62,7 +62,8 @@ shared-slice-read-moved c =
 moved-requires : tie.Need-moved-requires Inv-loop μ-loop
 moved-requires c κs =
     let at = c .before .before in
-    started-moving (at .loop .inv) (roomy (begun at .pre)) (c .before .loop-test .taken) (lined at .measure-from .ensures)
+    let first = lined at .measure-from .ensures in
+    started-moving (at .loop .inv) (roomy (begun at .pre)) (c .before .loop-test .taken) (first .0, omega (arith, first .1))
 
 mul-at-start : tie.Need-mul-at-start Inv-loop μ-loop
 mul-at-start c =
