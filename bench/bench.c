@@ -45,18 +45,22 @@ typedef struct {
     uint32_t shortest, longest; /* lengths at random between these; both 0: as in English text */
     uint32_t lmin, lopt_low, lopt_high, lmax_low, lmax; /* lopt and lmax at random too: alike words differ by nothing else */
     uint32_t space;                                     /* below every length; 0 counts the space at the end of a line */
+    uint32_t lastmin;                                   /* above 0 under edition 2, 0 under edition 1 */
 } Row;
 
 static const Row rows[] = {
-    {"words of English, 12 a line", 0, 0, 0, 50, 60, 70, 71, 73, 0},
-    {"words of English, 600 a line", 0, 0, 0, 2700, 3000, 3500, 3500, 3600, 0},
-    {"one-unit words, lmax 4095", 0, 1, 1, 1, 1000, 4095, 4095, 4095, 0},
-    {"lengths 1..64, 12 a line", 0, 1, 64, 250, 330, 390, 390, 410, 0},
-    {"lengths 1..4095, lmax 4095", 0, 1, 4095, 1, 2000, 4095, 4095, 4095, 0},
-    {"index, 75 items a page", 1, 1, 20, 600, 0, 0, 880, 920, 0},
-    {"index, limits 0..65535", 1, 1, 64, 0, 0, 0, 65535, 65535, 0},
-    /* The first row's text and measure. It stands last, so that the rows above have the inputs that they had before it came. */
-    {"words of English, space off", 0, 0, 0, 50, 60, 70, 71, 73, 1},
+    {"words of English, 12 a line", 0, 0, 0, 50, 60, 70, 71, 73, 0, 0},
+    {"words of English, 600 a line", 0, 0, 0, 2700, 3000, 3500, 3500, 3600, 0, 0},
+    {"one-unit words, lmax 4095", 0, 1, 1, 1, 1000, 4095, 4095, 4095, 0, 0},
+    {"lengths 1..64, 12 a line", 0, 1, 64, 250, 330, 390, 390, 410, 0, 0},
+    {"lengths 1..4095, lmax 4095", 0, 1, 4095, 1, 2000, 4095, 4095, 4095, 0, 0},
+    {"index, 75 items a page", 1, 1, 20, 600, 0, 0, 880, 920, 0, 0},
+    {"index, limits 0..65535", 1, 1, 64, 0, 0, 0, 65535, 65535, 0, 0},
+    /* The first row's text and measure. These stand last, so that the rows above have the inputs that they had before they came. */
+    {"words of English, space off", 0, 0, 0, 50, 60, 70, 71, 73, 1, 0},
+#ifndef EDITION_1_ALONE
+    {"words of English, last line 30", 0, 0, 0, 50, 60, 70, 71, 73, 1, 30},
+#endif
 };
 
 static const size_t sizes[] = {64, 256, 1024, 4096};
@@ -76,13 +80,20 @@ static uint32_t english(void) {
     return letters[within(0, sizeof letters - 1)] + 1u;
 }
 
+static HathurmoLimits make_limits(const Row *row) {
+    uint32_t lmax = within(row->lmax_low, row->lmax);
+    uint32_t any = row->paged ? 0 : within(row->lopt_low, row->lopt_high);
+    uint32_t lopt = any < lmax ? any : lmax, a = within(1, 15);
+    HathurmoLimits first = HATHURMO_EDITION_1(row->lmin, lopt, lmax, a, row->space);
+    HathurmoLimits second = HATHURMO_EDITION_2(row->lmin, lopt, lmax, a, row->space, row->lastmin);
+    return row->lastmin ? second : first;
+}
+
 static void make_inputs(const Row *row, size_t n) {
     for (size_t k = 0; k < WORDS; k++)
         memory[k] = row->longest ? within(row->shortest, row->longest) : english();
     for (size_t k = 0; k < WORDS / n; k++) {
-        uint32_t lmax = within(row->lmax_low, row->lmax);
-        uint32_t lopt = row->paged ? 0 : within(row->lopt_low, row->lopt_high);
-        inputs[k].limits = (HathurmoLimits){row->lmin, lopt < lmax ? lopt : lmax, lmax, within(1, 15), row->space};
+        inputs[k].limits = make_limits(row);
         inputs[k].lengths = memory + k * n;
     }
 }

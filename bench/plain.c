@@ -23,7 +23,7 @@ static uint32_t line(HathurmoLimits l, const uint32_t *sums, size_t i, size_t j)
     return sums[j - 1] - sums[i - 1] - l.space;
 }
 
-/* Best and next of start i, where the lines to the end are not free. */
+/* Best and next of start i, where the lines to the end are not free: they are above lopt, so not below the least last length. */
 static void try_lines(HathurmoLimits l, const uint32_t *sums, size_t n, uint64_t *best, uint32_t *next, size_t i) {
     uint64_t least = NO_SETTING;
     uint32_t chosen = 0;
@@ -50,7 +50,11 @@ HathurmoTold plain_set_paragraph(HathurmoLimits l, const uint32_t *lengths, size
     best[n] = 0;
     next[n] = 0;
     for (size_t i = n; i >= 1; i--) {
-        if (line(l, sums, i, n + 1) <= l.lopt) {
+        uint32_t rest = line(l, sums, i, n + 1);
+        if (rest < l.lastmin) { /* 0 under edition 1 */
+            best[i - 1] = NO_SETTING;
+            next[i - 1] = 0;
+        } else if (rest <= l.lopt) {
             best[i - 1] = 0;
             next[i - 1] = (uint32_t)n + 1;
         } else {

@@ -18,9 +18,14 @@ static HathurmoTold refused(uint32_t number, uint64_t place) {
 
 /* ---- refusals 1 to 5 ---- */
 
+/* The editions of the last-line rule: the first has no least last length. */
+static int edition_holds(HathurmoLimits l) {
+    return (l.edition == 1 && l.lastmin == 0) || (l.edition == 2 && l.lastmin <= l.lopt);
+}
+
 static int limits_hold(HathurmoLimits l) {
     return 1 <= l.lmin && l.lmin <= l.lopt && l.lopt <= l.lmax && l.lmax <= 4095 && l.lmin < l.lmax && 1 <= l.a && l.a <= 15 &&
-           l.space <= 255;
+           l.space <= 255 && edition_holds(l);
 }
 
 static int page_limits_hold(HathurmoPageLimits l) {
@@ -141,12 +146,16 @@ static inline void drop_worse(Queue *q, size_t i) {
         move(q, HATHURMO_DROP, q->queue[q->front++]);
 }
 
+/* The least last length is lastmin under both editions: limits that hold have 0 there under the first. Where the rest is shorter, the
+ * front, if one stands, is no chooser. */
 static inline void take(Queue *q, size_t i, size_t n, uint32_t *next) {
     uint64_t best = NO_SETTING;
-    uint32_t chosen = 0;
-    if (line(q, i, n + 1) <= q->limits.lopt) {
-        best = 0;
-        chosen = (uint32_t)n + 1;
+    uint32_t chosen = 0, rest = line(q, i, n + 1);
+    if (rest <= q->limits.lopt) {
+        if (rest >= q->limits.lastmin) {
+            best = 0;
+            chosen = (uint32_t)n + 1;
+        }
     } else if (q->front < q->end) {
         chosen = q->queue[q->front];
         best = through(q, i, chosen);
@@ -191,7 +200,7 @@ HathurmoTold TWIN_NAME(set_paragraph)(HathurmoLimits limits, const uint32_t *len
     return told;
 }
 
-/* The length is the line's own: the space is already off. */
+/* The length is the line's own: the space is already off. Which line it is nobody says, so lastmin asks nothing of it. */
 HathurmoTold TWIN_NAME(penalty)(HathurmoLimits limits, uint32_t length) {
     if (!limits_hold(limits))
         return refused(HATHURMO_LIMITS, 0);

@@ -10,8 +10,9 @@
 enum { N = 4 };
 
 int main(void) {
-    /* 01 counts the space after a line's last word: space 0. With the width of a space here it is taken off each line. */
-    const HathurmoLimits limits = {.lmin = 1, .lopt = 6, .lmax = 6, .a = 1, .space = 0};
+    /* lmin, lopt, lmax, a and the space. 01 counts the space after a line's last word: 0. With the width of a space here it is taken off
+     * each line. Under edition 1 the last line may be as short as one word; HATHURMO_EDITION_2 takes its least length too. */
+    const HathurmoLimits limits = HATHURMO_EDITION_1(1, 6, 6, 1, 0);
     const uint32_t lengths[N] = {3, 2, 2, 5};
     uint32_t sums[N + 1], next[N + 1], queue[N], moves[2 * N], breaks[N];
     uint64_t best[N + 1];

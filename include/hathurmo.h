@@ -26,7 +26,7 @@ enum {
     HATHURMO_LIMITS = 3, /* the limits break their rules */
     HATHURMO_LENGTH = 4, /* a length is 0, above 4,095 or, in a paragraph, not above the space; place: the first such word or item */
     HATHURMO_ROOM = 5,   /* a strip is too short; place: the first such strip's number, from 1, in parameter order */
-    HATHURMO_NONE = 6,   /* no admissible setting exists */
+    HATHURMO_NONE = 6,   /* no admissible setting exists; under edition 2 a last line that cannot reach lastmin is enough */
     HATHURMO_JOB = 7     /* the job file is malformed; place: byte offset, from 0 */
 };
 
@@ -47,13 +47,27 @@ enum {
 /* The total that is told of the penalty of a line outside the measure: above every penalty. */
 #define HATHURMO_OUTSIDE UINT64_MAX
 
-/* Limits of a paragraph: 1 <= lmin <= lopt <= lmax <= 4,095, lmin < lmax, a from 1 to 15, space at most 255.
+/* Limits of a paragraph: 1 <= lmin <= lopt <= lmax <= 4,095, lmin < lmax, a from 1 to 15, space at most 255; edition 1 with lastmin 0,
+ * or edition 2 with lastmin at most lopt.
  *
  * space is the width of the space after a word. A line is as long as its words together less one such space, for nothing stands
- * after its last word; that goes for the last line too. Every length must be above it. With 0 the space at the end of a line counts. */
+ * after its last word; that goes for the last line too. Every length must be above it. With 0 the space at the end of a line counts.
+ *
+ * edition is that of the last-line rule. Under edition 1 the last line may be as short as one word, and lastmin must be 0. Under
+ * edition 2 a last line shorter than lastmin is not admissible: lastmin is the least last length, measured like every line, the space
+ * off. Edition 2 with lastmin 0 is the same as edition 1. There is no other edition, so 0 is refused as LIMITS: limits whose last two
+ * fields nobody wrote are not set by a rule that nobody chose. The macros below write both fields. */
 typedef struct {
-    uint32_t lmin, lopt, lmax, a, space;
+    uint32_t lmin, lopt, lmax, a, space, edition, lastmin;
 } HathurmoLimits;
+
+/* Limits under edition 1: a last line of any length up to lmax. It initialises a HathurmoLimits where that is declared, a static one too:
+ *   static const HathurmoLimits limits = HATHURMO_EDITION_1(52, 60, 62, 3, 1);
+ * In C++ a number that is no constant must be a uint32_t already. */
+#define HATHURMO_EDITION_1(lmin, lopt, lmax, a, space) {(lmin), (lopt), (lmax), (a), (space), 1, 0}
+
+/* Limits under edition 2: a last line of lastmin to lmax units. It stands where HATHURMO_EDITION_1 does. */
+#define HATHURMO_EDITION_2(lmin, lopt, lmax, a, space, lastmin) {(lmin), (lopt), (lmax), (a), (space), 2, (lastmin)}
 
 /* Limits of an index: 0 <= lmin < lmax <= 65,535. */
 typedef struct {
@@ -74,7 +88,8 @@ typedef struct {
  *
  * Room needed, in entries:
  *   sums    n+1   sums[k] is the total of the first k lengths, every space included
- *   best    n+1   best[i-1] is the least total of words i to n, HATHURMO_NO_SETTING where there is none; best[n] is 0
+ *   best    n+1   best[i-1] is the least total of words i to n, HATHURMO_NO_SETTING where there is none (under edition 2 also at the
+ *                 last starts, where all words to the end, as one line, are shorter than lastmin); best[n] is 0
  *   next    n+1   next[i-1] is the start after i that gives it, 0 where there is none; next[n] is 0
  *   queue   n     0 afterwards
  *   moves   2n    the moves taken
@@ -107,13 +122,14 @@ HathurmoTold hathurmo_set_index(HathurmoPageLimits limits, const uint32_t *lengt
 
 /* The penalty a * (length - lopt)^2 of one line as the total. The length is the line's own, as limits measure it: the space after its
  * last word is already off, and the limits' space takes nothing off here. A line shorter than lmin or longer than lmax has no penalty:
- * number and place are 0 and the total is HATHURMO_OUTSIDE. Lines and moves are 0. That a last line of at most lopt costs nothing is
- * not looked at here.
+ * number and place are 0 and the total is HATHURMO_OUTSIDE. Lines and moves are 0. What holds of the last line is not looked at here: that
+ * one of at most lopt costs nothing, and that under edition 2 one below lastmin is not admissible.
  * Refusals: LIMITS; then LENGTH, place 0, where the length is above 16,773,120. */
 HathurmoTold hathurmo_penalty(HathurmoLimits limits, uint32_t length);
 
 /* A job as read. count is the file's first: 5 for a paragraph that gives its space, 4 for one that does not (space is then 0), 2 for an
- * index (lopt, a and space are then 0). It is 0 where the job is refused; a refused read returns 0 for the limits and n too. */
+ * index (lopt, a and space are then 0). It is 0 where the job is refused; a refused read returns 0 for the limits and n too.
+ * A job file says nothing of the last line: a paragraph's limits are HATHURMO_EDITION_1 of the five numbers. */
 typedef struct {
     uint32_t number;
     uint64_t place;

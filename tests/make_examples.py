@@ -26,7 +26,7 @@ def table_examples():
 def spaced_examples():
     """W-202's worked cases; all give their space, so the first does too, though it is 0."""
     for mark, limits, lengths, *_ in oracle.SPACED:
-        yield mark, f"Case {mark}: a space of {limits.space} is taken off the end of each line.", limits, lengths
+        yield mark, f"Case {mark}: a space of {limits.space} is taken off the end of each line.", limits[:5], lengths
 
 
 def catalogue_examples():

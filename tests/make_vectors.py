@@ -4,8 +4,10 @@
     python3 tests/make_vectors.py            writes crates/{jobs,longs,traces}/{stdin,stdout}
     python3 tests/make_vectors.py --check    writes nothing; exit status 1 where a stored file differs
 
-Input, the same for all three: records one after the other, each a size of 2 bytes, low byte first, and then a job of that many
-bytes. The input ends with its last record and has at most 60,000 bytes.
+Input: records one after the other, each after its size in bytes, which takes 2 bytes. The input ends with its last record and has at
+most 60,000 bytes. For jobs and longs a record is a job. For traces it is the edition of the last-line rule and lastmin, 2 bytes each, and
+then a job. They are put in the limits of a paragraph, where the job reader gives 1 and 0; for an index they are read and not used, and are
+1 and 0. Numbers of 2 bytes have their low byte first.
 
 Output of jobs and longs: the listings of the jobs one after the other, nothing between them.
 
@@ -24,7 +26,7 @@ import random
 import sys
 
 import oracle
-from oracle import Job, Limits, PageLimits, job_of, job_of_five, pack
+from oracle import Limits, PageLimits, job_of, job_of_five, pack
 
 ROOT = pathlib.Path(__file__).resolve().parent.parent
 SEED = 19870
@@ -178,10 +180,9 @@ def long_jobs():
     ]
 
 
-def traced_jobs():
+def edition_1_jobs(r):
     """Every marked row, those with a space, every list where an error shows, bridged rears, some refusals, lines at the edges of a
     measure, some dozens at random; n at most 12."""
-    r = random.Random(SEED + 2)
     refused = [
         job_of(Limits(1, 6, 6, 1), []), job_of(PageLimits(2, 7), []), job_of(Limits(1, 6, 6, 16), [3, 2]),
         job_of(PageLimits(7, 7), [3, 2]), job_of(Limits(1, 6, 6, 1), [3, 0]), job_of(PageLimits(2, 7), [3, 2, 4096]),
@@ -199,18 +200,79 @@ def traced_jobs():
     return marked_jobs() + spaced_jobs() + chord_jobs() + bridged_jobs(r, 12) + refused + lines + random_jobs(r, 72, 12)
 
 
+def edition_edges():
+    """The edition and lastmin from both sides of their rules, each told by both of its bytes; the order of the refusals."""
+    good = Limits(1, 4, 6, 1)
+    last = [
+        (2, 4), (2, 5), (2, 0), (2, 1), (2, 65535), (0, 0), (3, 0), (65535, 0), (0, 2), (3, 2), (1, 0), (1, 1), (1, 4), (1, 65535),
+        (0x0102, 2), (0x0201, 0), (0x0200, 2), (1, 0x0100), (2, 0x0104),
+    ]
+    edges = [(good._replace(edition=edition, lastmin=lastmin), [3, 4, 2]) for edition, lastmin in last]
+    edges += [(Limits(1, 300, 400, 1, 0, 2, 0x0101), lengths) for lengths in ([256], [257], [200, 300], [200, 200, 57])]
+    order = [
+        (good._replace(edition=0), []), (good._replace(edition=0), [0]), (good._replace(lastmin=1), [4096]),
+        (good._replace(edition=2, lastmin=4), [3, 0]), (good._replace(edition=2, lastmin=4, a=16), [3]),
+        (good._replace(space=2, edition=2, lastmin=5), [2]), (good._replace(space=2, edition=2, lastmin=4), [3, 2]),
+    ]
+    return edges + order
+
+
+def last_lines():
+    """Last lines of lastmin and one unit off it, with a space and without; one line below lastmin and at it; fronts that stand and are no
+    choosers; no setting at any start; the penalty alone, which is not compared with lastmin."""
+    bare, spaced, widest = Limits(1, 4, 6, 1, 0, 2, 3), Limits(1, 4, 6, 1, 1, 2, 3), Limits(1, 4, 6, 1, 255, 2, 3)
+    edges = [(bare, lengths) for lengths in ([2], [3], [4], [1, 1], [1, 1, 1], [5, 2], [5, 3], [5, 1, 1], [5, 1, 2], [5, 2, 2, 2])]
+    edges += [(spaced, lengths) for lengths in ([3], [4], [5], [2, 2], [2, 3], [6, 3], [6, 4], [6, 2, 2], [6, 2, 3], [6, 3, 3, 3])]
+    edges += [(widest, lengths) for lengths in ([257], [258], [261, 257], [261, 258])]
+    whole = [(Limits(1, 9, 12, 2, space, 2, 9), [2 + space, 2, 2, 2 + off]) for space in (0, 1) for off in (0, 1, 2)]
+    fronts = [(Limits(lmin, 9, 11, 3, 0, 2, lastmin), [1, 2, 1, 3, 1, 1, 2, 1, 1, 2]) for lmin in (1, 2, 4) for lastmin in (3, 5, 8, 9)]
+    none = [(Limits(1, 4, 4, 1, 0, 2, 4), [3] * 12), (Limits(1, 40, 40, 1, 0, 2, 40), [3] * 12), (Limits(1, 5, 5, 1, 1, 2, 5), [5] * 12),
+            (Limits(9, 9, 10, 1, 0, 2, 9), [8] * 12)]
+    asked = [5, 6, 7, 8, 9, 10, 11, 0, oracle.MOST_ALONE, oracle.MOST_ALONE + 1]
+    alone = [(Limits(6, 8, 10, 15, space, 2, lastmin), asked) for space, lastmin in ((0, 0), (0, 7), (1, 8), (0, 9), (256, 7))]
+    return edges + whole + fronts + none + alone + [(Limits(6, 8, 10, 15, 0, 3, 0), asked), (Limits(6, 8, 10, 15, 0, 1, 6), asked)]
+
+
+def last_cases(r):
+    """W-205's worked cases, its edges, and some dozens at random, of which some are refused; n at most 12."""
+    worked = [(limits, lengths) for _, limits, lengths, *_ in oracle.LAST]
+    picked = [oracle.random_last_paragraph(r, 12) for _ in range(40)] + [oracle.random_barred_case(r, 12) for _ in range(16)]
+    bad = [oracle.random_paragraph(r, 4) for _ in range(8)]
+    return worked + edition_edges() + last_lines() + picked + [(oracle.random_bad_edition(r, limits), lengths) for limits, lengths in bad]
+
+
+def traced(edition, lastmin, job):
+    """What traces is given of a job."""
+    return edition.to_bytes(2, "little") + lastmin.to_bytes(2, "little") + job
+
+
+def traced_jobs():
+    r = random.Random(SEED + 2)
+    first = [traced(1, 0, job) for job in edition_1_jobs(r)]
+    return first + [traced(limits.edition, limits.lastmin, job_of(limits, lengths)) for limits, lengths in last_cases(r)]
+
+
 # ---- the files --------------------------------------------------------------------------------------------------------
 
-def records(jobs):
-    return b"".join(len(job).to_bytes(2, "little") + job for job in jobs)
+def records(contents):
+    return b"".join(len(content).to_bytes(2, "little") + content for content in contents)
 
 
 def listings(jobs):
     return "".join(oracle.listing(job) for job in jobs)
 
 
-def trace(job_bytes):
-    job = oracle.read_job(job_bytes)
+def traced_job(content):
+    """The job of a record of traces, a paragraph under the record's edition and lastmin."""
+    edition, lastmin = (int.from_bytes(content[at:at + 2], "little") for at in (0, 2))
+    job = oracle.read_job(content[4:])
+    if isinstance(job.limits, PageLimits):
+        return job
+    return job._replace(limits=job.limits._replace(edition=edition, lastmin=lastmin))
+
+
+def trace(content):
+    job = traced_job(content)
     names = oracle.PARAGRAPH_STRIPS if isinstance(job.limits, Limits) else oracle.INDEX_STRIPS
     told, strips = oracle.set_job(job, more=2, fill=7)
     rows = [f"{name}: {' '.join(map(str, strip))}" for name, strip in zip(names, strips)]

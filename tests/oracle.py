@@ -7,7 +7,7 @@ Three renderings of the same answers, so that a slip in one shows against the ot
   by the rules   01's queue and pointer rules, word for word; these alone give the moves
 Above them stand the setter with every strip, the penalty asked for alone, the job reader and the listing.
 
-    python3 tests/oracle.py selftest [SEED]    compares the three, 01's own cases and those with a space; exit status 1 where they differ
+    python3 tests/oracle.py selftest [SEED]    compares the three, 01's own cases and 02's; exit status 1 where they differ
     python3 tests/oracle.py listing < JOB      prints the listing of a job
 """
 import itertools
@@ -23,8 +23,9 @@ MOST_ALONE = 16_773_120
 EMPTY, MANY, LIMITS, LENGTH, ROOM, NONE, JOB = range(1, 8)
 ADD, PASS, DROP, POP, STEP, JUMP, LINK = range(1, 8)
 
-# The space is taken off the end of a line (W-202); a paragraph that gives none has 0, and counts it as 01 does.
-Limits = namedtuple("Limits", "lmin lopt lmax a space", defaults=[0])
+# The space is taken off the end of a line (W-202); a paragraph that gives none has 0, and counts it as 01 does. The last-line rule has
+# its edition (W-205); 01's is the first, which has no least last length: 0.
+Limits = namedtuple("Limits", "lmin lopt lmax a space edition lastmin", defaults=[0, 1, 0])
 PageLimits = namedtuple("PageLimits", "lmin lmax")
 Told = namedtuple("Told", "number place total lines moves")
 # What a rendering says of the starts: for the paragraph entry 0 is start 1, for the index start 0; the end is last.
@@ -45,6 +46,11 @@ def line(limits, lengths, i, j):
     """Line(i, j): the sum of the lengths of words i to j-1 less the space after the last of them; with no word there is none to take."""
     words = lengths[i - 1:j - 1]
     return sum(words) - limits.space if words else 0
+
+
+def least_last(limits):
+    """The least last length: 0 under edition 1, lastmin under edition 2."""
+    return {1: 0, 2: limits.lastmin}[limits.edition]
 
 
 def gap(lengths, a, b):
@@ -73,9 +79,9 @@ def neighbours(points, end):
 
 
 def admissible(limits, lengths, starts):
-    """Every line but the last has lmin <= length <= lmax; the last has length <= lmax."""
-    lines = [line(limits, lengths, i, j) for i, j in neighbours(starts, len(lengths) + 1)]
-    return all(limits.lmin <= x for x in lines[:-1]) and all(x <= limits.lmax for x in lines)
+    """Every line but the last has lmin <= length <= lmax; the last has length <= lmax, and is not below the least last length."""
+    *lines, last = [line(limits, lengths, i, j) for i, j in neighbours(starts, len(lengths) + 1)]
+    return all(limits.lmin <= x <= limits.lmax for x in lines) and least_last(limits) <= last <= limits.lmax
 
 
 def setting_total(limits, lengths, starts):
@@ -139,7 +145,7 @@ def paragraph_nexts(limits, sums, best, i):
         if x > limits.lmax:
             return
         last = j == end
-        if (last or x >= limits.lmin) and best[j] != NO_SETTING:
+        if x >= (least_last(limits) if last else limits.lmin) and best[j] != NO_SETTING:
             yield best[j] + (0 if last and x <= limits.lopt else penalty(limits, x)), j
 
 
@@ -150,7 +156,7 @@ def paragraph_by_table(limits, lengths):
     for i in range(n, 0, -1):
         # The least total, and of equal totals the smallest next: pairs compare in that order.
         best[i], chosen[i] = min(paragraph_nexts(limits, sums, best, i), default=(NO_SETTING, 0))
-        if sums[n] - sums[i - 1] - limits.space <= limits.lopt:
+        if least_last(limits) <= sums[n] - sums[i - 1] - limits.space <= limits.lopt:
             chosen[i] = n + 1
     return Starts([best[i] for i in range(1, n + 2)], [chosen[i] for i in range(1, n + 2)])
 
@@ -193,15 +199,18 @@ def not_larger_to_the_right(best, n):
 class QueueRules:
     """01's queue rules. best and next are kept by start; the queue's front is first, its rear last.
 
-    W-202: a line of the rules is less the space; between two break points the space cancels, so `bridged` takes plain sums."""
+    W-202: a line of the rules is less the space; between two break points the space cancels, so `bridged` takes plain sums.
+    W-205: the rules are the same under both editions; the last length is asked only where the start takes its next."""
 
     def __init__(self, limits, lengths, chord_alone=False, space_off=False):
-        self.limits, self.n = limits, len(lengths)
+        self.limits, self.n, self.lengths = limits, len(lengths), lengths
         self.sums = running_sums(lengths)
         self.chord_alone = chord_alone    # 01's first error: bridging by the second inequality alone
         self.between = self.line if space_off else self.apart    # the error W-202 warns of: the space taken off in the crossing test
         self.queue, self.moves = [], []
         self.bridges = []    # how many stood at each Pop of a bridged rear, to choose cases by
+        self.fronts = {}    # the front after the rules at each start, 0 where none stands
+        self.asked = set()    # the starts at which the front was asked for the next
         self.candidate = self.n + 1
         self.best, self.next = {self.n + 1: 0}, {self.n + 1: 0}
 
@@ -252,11 +261,17 @@ class QueueRules:
         while len(self.queue) >= 2 and self.through(i, self.queue[1]) <= self.through(i, self.queue[0]):
             self.move(DROP, self.queue.pop(0))
 
+    def chosen_by_front(self, i):
+        """(best, next) of a start at which the front is the chooser."""
+        self.asked.add(i)
+        return (self.through(i, self.queue[0]), self.queue[0]) if self.queue else (NO_SETTING, 0)
+
     def take(self, i):
-        if self.line(i, self.n + 1) <= self.limits.lopt:
+        rest = self.line(i, self.n + 1)
+        if rest > self.limits.lopt:
+            self.best[i], self.next[i] = self.chosen_by_front(i)
+        elif rest >= least_last(self.limits):
             self.best[i], self.next[i] = 0, self.n + 1
-        elif self.queue:
-            self.best[i], self.next[i] = self.through(i, self.queue[0]), self.queue[0]
         else:
             self.best[i], self.next[i] = NO_SETTING, 0
 
@@ -265,9 +280,27 @@ class QueueRules:
             self.drop_long(i)
             self.consider(i)
             self.drop_worse(i)
+            self.fronts[i] = self.queue[0] if self.queue else 0
             self.take(i)
         starts = range(1, self.n + 2)
         return Starts([self.best[i] for i in starts], [self.next[i] for i in starts])
+
+
+def barred_fronts(rules):
+    """How many starts, once the rules have run, have a front that is no chooser, the rest being below the least last length."""
+    return sum(rules.line(i, rules.n + 1) < least_last(rules.limits) for i, front in rules.fronts.items() if front)
+
+
+def check_choosers(rules, starts):
+    """Demand 3, of bests and nexts that the rules did not find: the front is the chosen next wherever it is the chooser, and it is asked
+    nowhere else, so not below the least last length."""
+    for i in range(1, rules.n + 1):
+        rest = line(rules.limits, rules.lengths, i, rules.n + 1)
+        assert (i in rules.asked) == (rest > rules.limits.lopt), (rules.limits, rules.lengths, i)
+        if rest > rules.limits.lopt:
+            assert rules.fronts[i] == starts.next[i - 1], (rules.limits, rules.lengths, i)
+        elif rest < least_last(rules.limits):
+            assert (starts.best[i - 1], starts.next[i - 1]) == (NO_SETTING, 0), (rules.limits, rules.lengths, i)
 
 
 # ---- by the rules: the pointer ----------------------------------------------------------------------------------------
@@ -334,9 +367,15 @@ class Refused(Exception):
         self.told = Told(number, place, 0, 0, 0)
 
 
+def edition_holds(limits):
+    """W-205: edition 1 has lastmin 0, edition 2 has it up to lopt, and there is no other."""
+    return limits.edition == 1 and limits.lastmin == 0 or limits.edition == 2 and limits.lastmin <= limits.lopt
+
+
 def paragraph_limits_hold(limits):
     ordered = 1 <= limits.lmin <= limits.lopt <= limits.lmax <= 4095
-    return ordered and limits.lmin < limits.lmax and 1 <= limits.a <= 15 and limits.space <= MOST_SPACE
+    return (ordered and limits.lmin < limits.lmax and 1 <= limits.a <= 15 and limits.space <= MOST_SPACE
+            and edition_holds(limits))
 
 
 def page_limits_hold(limits):
@@ -407,7 +446,8 @@ def set_paragraph(limits, lengths, strips):
         return refused.told, [list(strip) for strip in strips]
     n = len(lengths)
     rules = QueueRules(limits, lengths)
-    starts = same(rules.run(), paragraph_by_table(limits, lengths))
+    starts = same(paragraph_by_table(limits, lengths), rules.run())
+    check_choosers(rules, starts)
     found = starts.best[0] != NO_SETTING
     breaks = follow([0] + starts.next, 1, n + 1) if found else []
     fronts = [running_sums(lengths), starts.best, starts.next, [0] * n, rules.moves]
@@ -433,7 +473,7 @@ def set_index(limits, lengths, strips):
 def penalty_alone(limits, length):
     """The penalty of one line asked for alone: the total is the penalty, or NO_SETTING where the line is outside the measure.
 
-    The length is the line's own, the space already off."""
+    The length is the line's own, the space already off. Which line it is nobody says, so no length is compared with lastmin."""
     if not paragraph_limits_hold(limits):
         return Told(LIMITS, 0, 0, 0, 0)
     if length > MOST_ALONE:
@@ -486,8 +526,8 @@ def pack(numbers):
 
 
 def job_numbers(limits, lengths):
-    """The numbers of a job. A paragraph without a space is written by the count 4, which stands for it."""
-    written = limits[:4] if isinstance(limits, Limits) and limits.space == 0 else limits
+    """The numbers of a job. A paragraph without a space is written by the count 4, which stands for it. No job carries an edition."""
+    written = limits[:4] if isinstance(limits, Limits) and limits.space == 0 else limits[:5]
     return [len(written), *written, len(lengths), *lengths]
 
 
@@ -497,7 +537,7 @@ def job_of(limits, lengths):
 
 def job_of_five(limits, lengths):
     """The job of a paragraph that gives its space, be it 0."""
-    return pack([5, *limits, len(lengths), *lengths])
+    return pack([5, *limits[:5], len(lengths), *lengths])
 
 
 # ---- the listing ------------------------------------------------------------------------------------------------------
@@ -577,6 +617,14 @@ SPACED = [
     ("S5", Limits(6, 8, 10, 1, 2), [4, 4, 3, 5, 5], 1, [1, 4], [1, 4, 4, 0, 0, 0], [49, 51, 41, 43, 33, 25]),
 ]
 
+# W-205, worked on paper: mark, limits, lengths, total (None for NONE), breaks, best, next, moves. In E1 the front is 2 and no chooser.
+LAST = [
+    ("E1", Limits(1, 2, 2, 1, 0, 2, 2), [1], None, [], [NO_SETTING, 0], [0, 0], [17]),
+    ("E2", Limits(1, 6, 6, 1, 0, 2, 4), [3, 2, 2, 3], 1, [1, 3], [1, 16, 0, NO_SETTING, 0], [3, 3, 5, 0, 0], [41, 34, 43, 25, 17]),
+    ("E3", Limits(2, 4, 6, 1, 0, 2, 3), [3, 2, 2], 1, [1, 2], [1, 0, NO_SETTING, 0], [2, 4, 0, 0], [33, 26, 35, 17]),
+    ("E4", Limits(2, 5, 7, 1, 1, 2, 4), [4, 3, 3, 2], 1, [1, 3], [1, 4, 0, NO_SETTING, 0], [3, 5, 5, 0, 0], [41, 34, 25, 43, 17]),
+]
+
 PARAGRAPH_LISTING = "paragraph 4\npenalty 13\nlines 3\n1 3 9\n2 4 4\n4 5 0\nmoves 7\n"
 # S2's: the lines of 4, 3 + 3 and 6 units are 3, 5 and 5 long.
 SPACED_LISTING = "paragraph 4\npenalty 4\nlines 3\n1 3 4\n2 5 0\n4 5 0\nmoves 7\n"
@@ -651,6 +699,32 @@ def random_paragraph(r, most):
     return random_limits(r, widest + space)._replace(space=space), spaced(lengths, space)
 
 
+def random_lastmin(r, limits, lengths):
+    """A least last length up to lopt: an end of that range, lmin, any, or within one unit of what some last words are as one line."""
+    rest = line(limits, lengths, r.randint(max(1, len(lengths) - 3), len(lengths)), len(lengths) + 1)
+    near = r.randint(rest - 1, rest + 1)
+    return min(limits.lopt, r.choice([0, 1, limits.lmin, limits.lopt, r.randint(0, limits.lopt), near, near, near]))
+
+
+def random_last_paragraph(r, most):
+    """A paragraph under edition 2."""
+    limits, lengths = random_paragraph(r, most)
+    return limits._replace(edition=2, lastmin=random_lastmin(r, limits, lengths)), lengths
+
+
+def random_bad_edition(r, limits):
+    """The same limits with an edition that there is not, or with a lastmin that their edition does not have."""
+    other, beyond = r.choice([0, 3, 4, 255, 65535]), r.choice([limits.lopt + 1, limits.lmax + 1, r.randint(limits.lopt + 1, 65535)])
+    last = [(other, 0), (other, r.randint(0, limits.lopt)), (1, 1), (1, r.randint(1, limits.lopt)), (2, beyond)]
+    edition, lastmin = r.choice(last)
+    return limits._replace(edition=edition, lastmin=lastmin)
+
+
+def random_of_both(r, most):
+    """A paragraph under either edition."""
+    return r.choice([random_paragraph, random_last_paragraph])(r, most)
+
+
 def random_index(r, most):
     lengths, widest = random_lengths(r, most)
     return random_page_limits(r, widest), lengths
@@ -701,6 +775,16 @@ def random_bridge_case(r, most, standing):
             return limits, lengths
 
 
+def random_barred_case(r, most):
+    """A paragraph under edition 2 with a start at which a front stands and is no chooser."""
+    while True:
+        limits, lengths = random_last_paragraph(r, most)
+        rules = QueueRules(limits, lengths)
+        rules.run()
+        if barred_fronts(rules):
+            return limits, lengths
+
+
 # ---- self test --------------------------------------------------------------------------------------------------------
 
 def greedy_total(limits, lengths):
@@ -715,6 +799,7 @@ def greedy_total(limits, lengths):
 def compare_paragraph(limits, lengths):
     rules = QueueRules(limits, lengths)
     starts = same(paragraph_by_definition(limits, lengths), paragraph_by_table(limits, lengths), rules.run())
+    check_choosers(rules, starts)
     assert len(rules.moves) <= 2 * len(lengths), (limits, lengths)
     return starts.best[0] == NO_SETTING
 
@@ -764,16 +849,38 @@ def test_space_off():
         assert paragraph_by_table(limits, lengths).best[0] == least, name
 
 
+def test_last():
+    for mark, limits, lengths, total, breaks, best, chosen, moves in LAST:
+        n = len(lengths)
+        told, strips = set_job(Job(limits, lengths), more=1, fill=7)
+        assert told == ((NONE, 0, 0, 0, len(moves)) if total is None else (0, 0, total, len(breaks), len(moves))), mark
+        assert strips[:4] == [running_sums(lengths) + [7], best + [7], chosen + [7], [0] * n + [7]], mark
+        assert strips[4:] == [over(moves, [7] * (2 * n + 1)), over(breaks, [7] * (n + 1))], mark
+        compare_paragraph(limits, lengths)
+
+
+def same_setting(lengths, *limits):
+    """What is told under each of these limits, which must be the same, as must be every entry of every strip."""
+    told, _ = same(*(set_job(Job(l, lengths), more=2, fill=7) for l in limits))
+    return told
+
+
 def without_space(limits):
-    """The limits of the paragraph that counts the space after a line's last word, and so is the same paragraph."""
-    lmin, lopt, lmax, a, space = limits
-    return Limits(lmin + space, lopt + space, lmax + space, a, 0)
+    """The limits of the paragraph that counts the space after a line's last word, and so is the same paragraph. A lastmin of 0 asks
+    nothing, and stays."""
+    space = limits.space
+    return limits._replace(lmin=limits.lmin + space, lopt=limits.lopt + space, lmax=limits.lmax + space, space=0,
+                           lastmin=limits.lastmin + space if limits.lastmin else 0)
 
 
 def compare_shifted(limits, lengths):
-    """A paragraph with a space, and the one without it whose limits are each raised by it: the same in all that is told and written."""
-    told = same(*(set_job(Job(l, lengths), more=2, fill=7) for l in (limits, without_space(limits))))
-    assert told[0].number in (0, NONE), (limits, lengths)
+    """A paragraph with a space, and the one without it whose limits are each raised by it."""
+    assert same_setting(lengths, limits, without_space(limits)).number in (0, NONE), (limits, lengths)
+
+
+def compare_editions(limits, lengths):
+    """Edition 2 with lastmin 0, and edition 1."""
+    assert same_setting(lengths, *(limits._replace(edition=edition, lastmin=0) for edition in (1, 2))).number in (0, NONE)
 
 
 def test_chord_alone():
@@ -848,6 +955,22 @@ def test_edges():
     assert listing(job_of(Limits(1, 2, 3, 1, 1), [2, 3, 1, 0])) == "refused 4 3\n"
 
 
+def test_editions():
+    """The edition and lastmin from both sides of their rules, and the order of the refusals."""
+    def number(lengths, **last):
+        return set_job(Job(Limits(1, 4, 6, 1)._replace(**last), lengths))[0].number
+    for edition in (0, 3, 4, 2**16, 2**32 - 1):
+        assert number([4], edition=edition) == LIMITS == number([4], edition=edition, lastmin=2)
+    assert number([4], lastmin=0) == 0 and number([4], lastmin=1) == LIMITS == number([4], lastmin=2**32 - 1)
+    assert number([4], edition=2, lastmin=4) == 0 and number([4], edition=2, lastmin=5) == LIMITS
+    assert number([4], edition=2, lastmin=2**32 - 1) == LIMITS
+    assert number([], edition=0) == EMPTY and number([0], edition=0) == LIMITS and number([1] * 4097, edition=0) == MANY
+    assert number([0], edition=2, lastmin=4) == LENGTH and number([3], edition=2, lastmin=4) == NONE
+    for space in (0, 1, 9):
+        assert number([3 + space], space=space, edition=2, lastmin=3) == 0
+        assert number([3 + space], space=space, edition=2, lastmin=4) == NONE
+
+
 def test_penalty():
     assert penalty_alone(Limits(1, 6, 6, 1), 3).total == 9
     limits = Limits(6, 8, 10, 15)
@@ -859,13 +982,17 @@ def test_penalty():
     for space in (1, MOST_SPACE):    # the length is the line's own: nothing is taken off it
         assert [penalty_alone(limits._replace(space=space), x).total for x in (6, 8, 10)] == [60, 0, 60]
     assert penalty_alone(limits._replace(space=MOST_SPACE + 1), 8) == Told(LIMITS, 0, 0, 0, 0)
+    for lastmin in (0, 1, 7, 8):    # nor is it compared with lastmin
+        assert [penalty_alone(limits._replace(edition=2, lastmin=lastmin), x).total for x in (6, 8, 10)] == [60, 0, 60]
+    assert penalty_alone(limits._replace(edition=2, lastmin=9), MOST_ALONE + 1) == Told(LIMITS, 0, 0, 0, 0)
     greatest = 251_412_540  # 15·4,094², below 01's 2^28
     assert penalty_alone(Limits(1, 1, 4095, 15), 4095).total == greatest == penalty_alone(Limits(1, 4095, 4095, 15), 1).total
 
 
 def test_room():
     """Strip after strip one entry too short: ROOM names the first, and nothing is written."""
-    paragraphs = [(set_paragraph, limits, paragraph_room) for limits in (Limits(1, 6, 6, 1), Limits(1, 5, 6, 1, 1))]
+    all_limits = (Limits(1, 6, 6, 1), Limits(1, 5, 6, 1, 1), Limits(1, 5, 6, 1, 1, 2, 4))
+    paragraphs = [(set_paragraph, limits, paragraph_room) for limits in all_limits]
     for setter, limits, room in [*paragraphs, (set_index, PageLimits(2, 7), index_room)]:
         for short in range(len(room(4))):
             strips = lent(room, 4, fill=7)
@@ -880,11 +1007,12 @@ def test_random(seed, count):
     r = random.Random(seed)
     nones = [0, 0]
     for _ in range(count):
-        nones[0] += compare_paragraph(*random_paragraph(r, r.choice([4, 7, 9])))
+        nones[0] += compare_paragraph(*random_of_both(r, r.choice([4, 7, 9])))
         nones[1] += compare_index(*random_index(r, r.choice([4, 7, 9])))
     for _ in range(count // 100):
         compare_paragraph(*random_chord_case(r, 11))
         compare_paragraph(*random_space_off_case(r, 9))
+        compare_paragraph(*random_barred_case(r, 9))
     return nones
 
 
@@ -900,33 +1028,58 @@ def test_shifted(seed, count):
     """The space against limits raised by it."""
     r = random.Random(seed)
     for _ in range(count):
-        compare_shifted(*with_space(random_paragraph, r, 40))
+        compare_shifted(*with_space(random_of_both, r, 40))
     for _ in range(count // 10):
         compare_shifted(*with_space(random_chord_case, r, 20))
         compare_shifted(*with_space(random_space_off_case, r, 20))
+
+
+def test_equal_editions(seed, count):
+    """Edition 2 with lastmin 0 against edition 1."""
+    r = random.Random(seed)
+    for _ in range(count):
+        compare_editions(*random_paragraph(r, 40))
+    for _ in range(count // 10):
+        compare_editions(*random_chord_case(r, 20))
+        compare_editions(*random_space_off_case(r, 20))
+
+
+def test_bad_editions(seed, count):
+    """A bad edition or lastmin is LIMITS before any length or strip is looked at, and nothing is written; the penalty alone says so too."""
+    r = random.Random(seed)
+    for _ in range(count):
+        limits, lengths = random_paragraph(r, 12)
+        bad, strips = random_bad_edition(r, limits), lent(paragraph_room, r.randint(0, len(lengths)), fill=7)
+        lengths[r.randrange(len(lengths))] = r.choice([0, 1, 4096])
+        assert set_paragraph(bad, lengths, strips) == (Told(LIMITS, 0, 0, 0, 0), strips), bad
+        assert penalty_alone(bad, r.choice([limits.lopt, MOST_ALONE + 1])) == Told(LIMITS, 0, 0, 0, 0), bad
 
 
 def test_longer(seed, count):
     """Table and rules on lists too long to list every setting; set_job compares them."""
     r = random.Random(seed)
     for _ in range(count):
-        set_job(Job(*random_paragraph(r, 120)))
+        set_job(Job(*random_of_both(r, 120)))
         set_job(Job(*random_index(r, 120)))
 
 
 def selftest(seed):
-    for test in (test_marked, test_spaced, test_chord_alone, test_space_off, test_bridged_of_two, test_listings, test_reader, test_edges,
-                 test_penalty, test_room):
+    for test in (test_marked, test_spaced, test_last, test_chord_alone, test_space_off, test_bridged_of_two, test_listings, test_reader,
+                 test_edges, test_editions, test_penalty, test_room):
         test()
     count, longer = 20_000, 2_000
     nones = test_random(seed, count)
     test_longer(seed + 1, longer)
     test_shifted(seed + 2, longer)
-    print(f"{len(MARKED)} marked rows, {len(SPACED)} with a space, all listings; lists where an error shows: {len(CHORD_ALONE)} where the "
-          f"second inequality stands alone, {len(SPACE_OFF)} where the crossing test takes the space off")
-    print(f"by definition = by table = by the rules: {count} paragraphs ({nones[0]} with none), "
-          f"{count} indexes ({nones[1]} with none), {count // 100} lists at random of each error")
-    print(f"a space = limits raised by it: {longer + 2 * (longer // 10)} paragraphs, every entry of every strip")
+    test_equal_editions(seed + 3, longer)
+    test_bad_editions(seed + 4, longer)
+    print(f"{len(MARKED)} marked rows, {len(SPACED)} with a space, {len(LAST)} under edition 2, all listings; lists where an error shows: "
+          f"{len(CHORD_ALONE)} where the second inequality stands alone, {len(SPACE_OFF)} where the crossing test takes the space off")
+    print(f"by definition = by table = by the rules: {count} paragraphs of both editions ({nones[0]} with none), "
+          f"{count} indexes ({nones[1]} with none), {count // 100} lists at random of each error and "
+          f"with a front below the least last length")
+    pairs = longer + 2 * (longer // 10)
+    print(f"a space = limits raised by it: {pairs} paragraphs; edition 2 with lastmin 0 = edition 1: {pairs}; every entry of every strip")
     print(f"by table = by the rules: {longer} longer paragraphs, {longer} longer indexes")
 
 

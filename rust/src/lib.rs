@@ -9,8 +9,7 @@
 //!
 //! let lengths = [3, 2, 2, 5];
 //! let mut room = ParagraphRoom::new(lengths.len());
-//! let limits = Limits { lmin: 1, lopt: 6, lmax: 6, a: 1, space: 0 };
-//! let setting = set_paragraph(limits, &lengths, room.lend()).unwrap();
+//! let setting = set_paragraph(Limits::new(1, 6, 6, 1), &lengths, room.lend()).unwrap();
 //! assert_eq!(setting.total, 13);
 //! assert_eq!(room.breaks[..setting.lines], [1, 2, 4]);
 //! ```
@@ -22,11 +21,13 @@
 //!
 //! let lengths = ["set", "in", "good", "type"].map(|word| word.len() as u32 + 1);
 //! let mut room = ParagraphRoom::new(lengths.len());
-//! let limits = Limits { lmin: 6, lopt: 9, lmax: 9, a: 1, space: 1 };
+//! let limits = Limits::new(6, 9, 9, 1).with_space(1);
 //! let setting = set_paragraph(limits, &lengths, room.lend()).unwrap();
 //! assert_eq!(room.breaks[..setting.lines], [1, 3]);
 //! assert_eq!(setting.total, 9); // "set in" has 6 of the 9 units, and "good type" all of them
 //! ```
+//!
+//! Where a last line of one short word will not do, [`Limits::with_lastmin`] asks for edition 2 of the last-line rule.
 
 pub mod raw;
 
@@ -60,7 +61,8 @@ pub enum Refusal {
     Length { word: usize },
     /// A strip is too short: the first such strip's number, in the order of its struct's fields.
     Room { strip: usize },
-    /// No admissible setting exists. Every strip is written but the answer; so many moves were taken.
+    /// No admissible setting exists; under edition 2 a last line that cannot reach lastmin is enough. Every strip is written but the
+    /// answer; so many moves were taken.
     None { moves: usize },
     /// The job file is malformed at this byte.
     Job { at: usize },
@@ -285,14 +287,14 @@ pub enum Penalty {
     Outside,
 }
 
-/// The penalty of one line of a length from 0 to 16,773,120, wherever it stands: that a last line of at most lopt costs nothing is
-/// not looked at here. The length is the line's own, so the space after its last word is already off; the limits' space is judged with
-/// the other limits and takes nothing off.
+/// The penalty of one line of a length from 0 to 16,773,120, wherever it stands: that a last line of at most lopt costs nothing, and that
+/// edition 2 asks a least length of it, is not looked at here. The length is the line's own, so the space after its last word is already
+/// off; the limits' space, edition and lastmin are judged with the other limits and change nothing else.
 ///
 /// ```
 /// use hathurmo::{penalty, Limits, Penalty};
 ///
-/// let limits = Limits { lmin: 6, lopt: 8, lmax: 10, a: 15, space: 0 };
+/// let limits = Limits::new(6, 8, 10, 15);
 /// assert_eq!(penalty(limits, 10), Ok(Penalty::Of(60)));
 /// assert_eq!(penalty(limits, 11), Ok(Penalty::Outside));
 /// ```
@@ -310,7 +312,7 @@ pub enum Job {
 }
 
 /// Reads a job file to its end and writes its lengths to the front of the strip. Limits and lengths are for the setters to judge. The
-/// limits of a paragraph that gives no space (count 4) have space 0.
+/// limits of a paragraph that gives no space (count 4) have space 0; a job file carries no edition, so all are under edition 1.
 ///
 /// A refused read leaves the strip as it was.
 pub fn read_job(job: &[u8], lengths: &mut [u32]) -> Result<Job, Refusal> {
@@ -322,7 +324,7 @@ pub fn read_job(job: &[u8], lengths: &mut [u32]) -> Result<Job, Refusal> {
     let raw::Job { lmin, lopt, lmax, a, space, n, .. } = read;
     let n = n as usize;
     Ok(match read.count {
-        5 | 4 => Job::Paragraph { limits: Limits { lmin, lopt, lmax, a, space }, n },
+        5 | 4 => Job::Paragraph { limits: Limits::new(lmin, lopt, lmax, a).with_space(space), n },
         _ => Job::Index { limits: PageLimits { lmin, lmax }, n },
     })
 }

@@ -4,9 +4,9 @@
  * arguments on the stack, and a large result through a first pointer. The same code compiled for Arm keeps that form, under names that
  * begin with raw_; here each function gets its C form back.
  *
- * A paragraph's limits have 20 bytes, so they go by the stack (the module marks them byval). C for Arm passes such a struct by a pointer,
+ * A paragraph's limits have 28 bytes, so they go by the stack (the module marks them byval). C for Arm passes such a struct by a pointer,
  * and has no word for a copy on the stack; but after eight arguments its registers are full, and the next ones stand on the stack in
- * order, eight bytes each. Limits come before all else that stands there: as three words behind the first eight arguments. */
+ * order, eight bytes each. Limits come before all else that stands there: as four words behind the first eight arguments. */
 #include "../../include/hathurmo.h"
 #include <string.h>
 
@@ -14,15 +14,15 @@ typedef HathurmoTold *Told;
 #define STRIP(type, name) type *name, size_t name##_len
 #define PASS(name) name, name##_len
 
-/* Paragraph limits as three words, the last half full. */
+/* Paragraph limits as four words, the last half full. */
 typedef struct {
-    uint64_t word[3];
+    uint64_t word[4];
 } Words;
-#define WORDS uint64_t, uint64_t, uint64_t
-#define PASS_WORDS(words) words.word[0], words.word[1], words.word[2]
+#define WORDS uint64_t, uint64_t, uint64_t, uint64_t
+#define PASS_WORDS(words) words.word[0], words.word[1], words.word[2], words.word[3]
 
 static Words words_of(HathurmoLimits limits) {
-    Words words = {{0, 0, 0}};
+    Words words = {{0, 0, 0, 0}};
     memcpy(&words, &limits, sizeof limits);
     return words;
 }

@@ -12,6 +12,7 @@ use Rattle.laws.specs.Number.{if, split}
 use Rattle.laws.specs.Cost.{Cost, none, some}
 use Rattle.laws.specs.Members.{Every, every-each}
 use Rattle.paper.specs.declared.Limits.{Limits}
+use Rattle.paper.specs.Allowed.{limitsHold}
 use Rattle.paper.specs.Paragraph.{line, lineLength, end, best, chosenNext, penalty, lines}
 use Rattle.paper.specs.QueueRules.{Text, Standing, textOf, takenBest, takenNext, atStart, afterStarts, queueAt}
 use Rattle.paper.specs.Applied.{applied, frontApplied}
@@ -24,14 +25,24 @@ use Rattle.queue_theory.specs.Agree.{Agrees, atStart-same, taken-same}
 use Rattle.queue_theory.specs.Paragraph.{scaled, size, start-takes}
 use Rattle.queue_theory.specs.Ready.{Measured, stood-before, stood-after}
 use Rattle.strips.specs.Costs.{costOf, entry-back}
-use Rattle.strips.specs.Words.{wordsOf, holds-length, holds-entry}
+use Rattle.strips.specs.Words.{wordsOf, Holds, holds-length, holds-entry}
 use Rattle.lines.specs.Held.{span, textIn}
 use Rattle.queue.specs.Asks.{Known}
-use Rattle.breaks.specs.Asks.{bestAt, Done}
+use Rattle.breaks.specs.Asks.{bestAt, restAt, Done}
 
 -- the text that the strips hold at start i
 abbrev pub textHeld : Limits → List ℕ → List ℕ → ℕ → Text
 textHeld l S B i = textIn l S B (getD S (i - 1) 0 + l .space)
+
+-- the remaining words from a start, on the strip
+pub held-rest : (l : Limits) (S : List ℕ) → Holds (limitsHold l) (l .space) S → (k : ℕ) → 1 ≤ k → k ≤ length (wordsOf S) →
+    getD S (k - 1) 0 + l .space + restAt l S k ≡ getD S (length S - 1) 0
+held-rest l S holds k first early =
+    let n = length (wordsOf S) in
+    let e : length S - 1 ≡ n = omega (arith, holds-length holds) in
+    let g : end (wordsOf S) - 1 ≡ n = omega arith in
+    let h = rw g at (length-scale l (wordsOf S) (holds .passed .lengths) k (end (wordsOf S)) first (omega arith) (omega arith)) in
+    rw e (omega (arith, h, holds-entry holds n (omega arith), holds-entry holds (k - 1) (omega arith)))
 
 module _ (l : Limits) (S B : List ℕ) (i : ℕ) (d : Done l S B i) where
   abbrev ws : List ℕ

@@ -27,7 +27,7 @@ use Rattle.queue.specs.declared.Queue.{Queue}
 use Rattle.queue.specs.Asks.{start, stood, Queued, StartAsks, StartLeaves}
 use Rattle.queue.specs.Next.{queued-map}
 use Rattle.breaks.specs.Asks.{bestAt, soFar, Done, SettleAsks, Settles}
-use Rattle.breaks.proofs.Agreeing.{held-ranges, held-bests, held-place, held-known, held-rules, held-takes}
+use Rattle.breaks.proofs.Agreeing.{held-ranges, held-bests, held-place, held-known, held-rest, held-rules, held-takes}
 use Rattle.breaks.proofs.Taking.{taken-numbers}
 
 -- where the queue stands in its strip
@@ -203,9 +203,11 @@ module _ {l : Limits} {S m₀ Q B N m : List ℕ} {q : Queue} {i : ℕ} (s : Sta
         unfolding bestEntry
         nobody none = leaves .cost ∙ rw (part-none Q′ (leaves .left .queued .standing) none)
 
-        pub started-settle : SettleAsks i Q′ r B N
+        pub started-settle : SettleAsks l i (getD S (i - 1) 0) (getD S (length S - 1) 0) Q′ r B N
         started-settle = record {
           choose = record {
+            ranges = held-ranges l S B i (s .done);
+            before = holds-rising holds (i - 1) (length S - 1) (omega (arith, sized, s .low)) (omega (arith, sized));
             standing = leaves .left .queued .standing;
             short = omega (arith, places, sized, holds .passed .few);
             nobody = nobody;
@@ -217,15 +219,22 @@ module _ {l : Limits} {S m₀ Q B N m : List ℕ} {q : Queue} {i : ℕ} (s : Sta
           next = omega (arith, s .nexts .size, places, sized);
         }
 
-        module _ (B′ N′ : List ℕ) (w : Settles i (p .goal) (getD S (length S - 1) 0) Q′ r B N B′ N′) where
+        module _ (B′ N′ : List ℕ) (w : Settles l i (getD S (i - 1) 0) (p .goal) (getD S (length S - 1) 0) Q′ r B N B′ N′) where
+          -- the rest is longer than the space
+          longer : getD S (i - 1) 0 + l .space ≤ getD S (length S - 1) 0
+          longer = omega (arith, held-rest l S holds i first (s .low))
+
           takes : (B′ ≡ set B (i - 1) (bestAt l ws i)) × (N′ ≡ set N (i - 1) (chosenNext l ws i))
           takes =
               let q′ : List ℕ = listed (stood Q′ r) in
               let goal : p .goal ≡ getD S (i - 1) 0 + l .space + l .lopt = omega (arith, placed .goal, begun) in
               let cost = rw begun at (leaves .cost) in
-              let u = taken-numbers l S B (getD S (i - 1) 0 + l .space) i (omega (arith, sized, s .low)) q′ goal cost places in
-              let t = held-takes l S B i (s .done) first (s .low) q′ (ap (λ (z : Standing). z .queue) stands) in
-              (w .best ∙ ap (set B (i - 1)) (u .0 ∙ ap bestEntry (t .0)), w .next ∙ ap (set N (i - 1)) (u .1 ∙ t .1))
+              let u = taken-numbers (held-ranges l S B i (s .done)) S B (getD S (i - 1) 0) i (omega (arith, sized, s .low)) longer q′
+              cost places in
+              let t = held-takes l S B i (s .done) first (s .low) q′ (ap (λ (z : Standing). z .queue) stands) in (
+                rw goal at (w .best) ∙ ap (set B (i - 1)) (u .0 ∙ ap bestEntry (t .0)),
+                rw goal at (w .next) ∙ ap (set N (i - 1)) (u .1 ∙ t .1),
+              )
 
           after-start : atStart (textOf l ws) i (soFar l ws i .stands) .stands ≡ standsIn Q′ r
           unfolding queueAt

@@ -64,7 +64,7 @@ lengthsAfter job room at limits = counted job at (lengthsFrom job room limits (a
 unfoldable pub announced : ℕ → Bool
 announced count = eqb count 5 || (eqb count 4 || eqb count 2)
 
--- A limit that is not among them is 0: "Count 4 means space 0."
+-- A limit that is not among them is 0: "Count 4 means space 0." W-205: no count carries an edition, and so these are of edition 1.
 unfoldable pub askedBy : ℕ → List ℕ → Asked
 askedBy count l =
     if (eqb count 2)

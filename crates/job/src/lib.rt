@@ -111,7 +111,7 @@ fn announced(count: u32) -> bool
     count == 4 || count == 2
 }
 
-// What limits of that count ask for. One that is not among them is 0.
+// What limits of that count ask for. One that is not among them is 0. W-205: no such job carries an edition; all are of edition 1.
 fn asked_by(count: u32, l: &[u32]) -> Asked
     requires { ⌜ 5 ≤ length (now l) ⌝ }
     ensures { λ r. ⌜ r ≡ askedBy count (now (l .entry)) ⌝ }
@@ -128,6 +128,8 @@ fn asked_by(count: u32, l: &[u32]) -> Asked
         lmax: l[2],
         a: l[3],
         space: l[4],
+        edition: 1,
+        lastmin: 0,
     })
 }
 

@@ -7,7 +7,7 @@ use lib.ListN.{length, getD}
 use Rattle.laws.specs.Number.{if}
 use Rattle.laws.specs.Bridge.{curve}
 use Rattle.paper.specs.declared.Limits.{Limits}
-use Rattle.paper.specs.Paragraph.{penalty}
+use Rattle.paper.specs.Paragraph.{penalty, leastLast}
 use Rattle.paper.specs.QueueRules.{Text}
 use Rattle.strips.specs.Costs.{costOf}
 use Rattle.lines.specs.declared.Measure.{Measure}
@@ -33,7 +33,7 @@ textIn l E B x = record {
     lmin = l .lmin;
     lopt = l .lopt;
     lmax = l .lmax;
-    lastmin = 0;
+    lastmin = leastLast l;
     line = λ i j. if (ltb i j) (getD E (j - 1) 0 - x) 0;
     penalty = penalty l;
     break = λ j. 0;

@@ -6,10 +6,10 @@ use Rattle.laws.specs.Chosen.{next}
 use Rattle.paper.specs.Lines as Lines
 use Rattle.paper.specs.Lines.{admissible, charge, settings, free}
 use Rattle.paper.specs.Paragraph as Paragraph
-use Rattle.paper.specs.Paragraph.{sum, line, lineLength, penalty, lines, paragraph}
+use Rattle.paper.specs.Paragraph.{sum, line, lineLength, penalty, leastLast, lines, paragraph}
 use Rattle.paper.specs.Index as Index
 use Rattle.paper.specs.Index.{gap, page, item, index}
-use Rattle.paper.specs.Allowed.{lengthHolds, limitsHold, pageLimitsHold}
+use Rattle.paper.specs.Allowed.{lengthHolds, lastHolds, limitsHold, pageLimitsHold}
 use Rattle.paper.specs.Told.{firstFailing, firstShort, checked}
 use Rattle.paper.specs.Moves.{code, kindNumber}
 use Rattle.paper.specs.QueueRules as QueueRules
@@ -24,8 +24,8 @@ unfolding over sum Table.best next lengthHolds firstFailing firstShort checked c
 stripsCompute = tt
 
 unfoldable pub paragraphComputes : Unit {0}
-unfolding stripsCompute line lineLength penalty lines paragraph admissible charge settings free sqd Lines.best Lines.chosenNext Lines.breaks
-    Paragraph.best Paragraph.chosenNext Paragraph.breaks limitsHold
+unfolding stripsCompute line lineLength penalty leastLast lines paragraph admissible charge settings free sqd Lines.best Lines.chosenNext Lines.breaks
+    Paragraph.best Paragraph.chosenNext Paragraph.breaks lastHolds limitsHold
     QueueRules.textOf QueueRules.F QueueRules.edge QueueRules.chord QueueRules.dropLong QueueRules.popWorse QueueRules.popBridged
     QueueRules.add QueueRules.consider QueueRules.candidates QueueRules.dropWorse QueueRules.settled QueueRules.atStart
     QueueRules.afterStarts QueueRules.queueMoves paragraphWritten paragraphSet paragraphChecked paragraphOutcome

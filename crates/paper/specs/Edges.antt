@@ -1,32 +1,42 @@
 -- Edges and worked moves of 01 and of 02's requests, computed from the definitions. Assumes nothing.
-use Prim.Native.Nat.{ℕ}
+use Prim.Native.Nat.{ℕ, _+_, _-_, _^_}
 use mathlib.Core.Path.{_≡_, refl}
 use mathlib.Core.Bool.{true, false}
 use mathlib.Core.List.{List, [], _∷_, map}
-use lib.ListN.{replicate}
+use lib.ListN.{length, replicate}
+use Rattle.laws.specs.Cost.{none as no-setting}
 use Rattle.laws.specs.Setting.{total}
 use Rattle.laws.specs.Square.{sqd}
 use Rattle.paper.specs.declared.Refusal.the-variants.{Empty, Many, Limits as BadLimits, Length, Room}
 use Rattle.paper.specs.declared.Penalty.the-variants.{Of, Outside, Refused}
-use Rattle.paper.specs.Paragraph.{paragraph, penalty, best}
+use Rattle.paper.specs.Paragraph.{paragraph, penalty, best, chosenNext}
 use Rattle.paper.specs.declared.Limits.{Limits}
-use Rattle.paper.specs.Allowed.{spacedLimits as spaced, limitsOf as limits, pageLimitsOf as pages, limitsHold, pageLimitsHold}
+use Rattle.paper.specs.Allowed.{editionLimits as edition, spacedLimits as spaced, limitsOf as limits, pageLimitsOf as pages}
+use Rattle.paper.specs.Allowed.{lastHolds, limitsHold, pageLimitsHold}
 use Rattle.paper.specs.declared.Checked.{Checked}
 use Rattle.paper.specs.declared.Checked.the-variants.{Accept, Refuse}
 use Rattle.paper.specs.Told.{checked, penaltyAlone}
 use Rattle.paper.specs.Moves.{code}
 use Rattle.paper.specs.Computes.{stripsCompute, paragraphComputes, indexComputes}
-use Rattle.paper.specs.QueueRules.{queueMoves}
+use Rattle.paper.specs.QueueRules.{Text, textOf, frontNext, takenBest, takenNext, queueAt, queueMoves}
 use Rattle.paper.specs.PointerRules.{pointerMoves}
-use Rattle.paper.specs.Strips.{bestEntry}
+use Rattle.paper.specs.Strips.{entries, bestEntry}
 
 -- ---- limits: what each set of them is said to be
 pub limit-edges : map limitsHold (
     limits 1 6 4095 1 ∷ limits 1 6 4096 1 ∷ limits 1 6 6 0 ∷ limits 1 6 6 16 ∷ limits 1 6 6 15
     ∷ limits 6 6 6 1 ∷ limits 0 6 6 1 ∷ limits 3 2 6 1 ∷ limits 3 7 6 1 ∷ spaced 1 6 6 1 255 ∷ spaced 1 6 6 1 256 ∷ [])
     ≡ true ∷ false ∷ false ∷ false ∷ true ∷ false ∷ false ∷ false ∷ false ∷ true ∷ false ∷ []
-unfolding limitsHold
+unfolding limitsHold lastHolds
 limit-edges = refl
+
+-- W-205: "lastmin above lopt, or not 0 under edition 1, or an edition but 1 or 2, is LIMITS"
+pub last-edges : map limitsHold (
+    edition 1 6 6 1 0 1 0 ∷ edition 1 6 6 1 0 1 1 ∷ edition 1 6 6 1 0 2 0 ∷ edition 1 6 6 1 0 2 6 ∷ edition 1 6 6 1 0 2 7
+    ∷ edition 1 6 6 1 0 0 0 ∷ edition 1 6 6 1 0 0 6 ∷ edition 1 6 6 1 0 3 0 ∷ edition 1 6 6 1 0 3 6 ∷ [])
+    ≡ true ∷ false ∷ true ∷ true ∷ false ∷ false ∷ false ∷ false ∷ false ∷ []
+unfolding limitsHold lastHolds
+last-edges = refl
 
 pub page-limit-edges : map pageLimitsHold (pages 0 65535 ∷ pages 0 65536 ∷ pages 7 7 ∷ pages 6 7 ∷ pages 8 7 ∷ [])
     ≡ true ∷ false ∷ false ∷ true ∷ false ∷ []
@@ -63,18 +73,25 @@ room-edges = refl
 -- ---- W-204: the penalty alone, at the edges of the measure and of what may be asked. LIMITS comes before LENGTH, LENGTH before "outside".
 pub penalty-edges : map (penaltyAlone (limits 6 8 10 15)) (5 ∷ 6 ∷ 8 ∷ 10 ∷ 11 ∷ 0 ∷ 16773120 ∷ 16773121 ∷ [])
     ≡ Outside ∷ Of 60 ∷ Of 0 ∷ Of 60 ∷ Outside ∷ Outside ∷ Outside ∷ Refused (Length 0) ∷ []
-unfolding penaltyAlone limitsHold penalty sqd
+unfolding penaltyAlone limitsHold lastHolds penalty sqd
 penalty-edges = refl
 
 -- W-202: the length is taken as given, the space off already; a space above 255 is LIMITS here too.
 pub penalty-space : map (λ (l : Limits). penaltyAlone l 7) (spaced 6 8 10 15 0 ∷ spaced 6 8 10 15 3 ∷ spaced 6 8 10 15 256 ∷ [])
     ≡ Of 15 ∷ Of 15 ∷ Refused BadLimits ∷ []
-unfolding penaltyAlone limitsHold penalty sqd
+unfolding penaltyAlone limitsHold lastHolds penalty sqd
 penalty-space = refl
+
+-- W-205: a line is asked about as any other, and a bad edition or lastmin is LIMITS here too.
+pub penalty-last : map (λ (l : Limits). penaltyAlone l 7)
+    (edition 6 8 10 15 0 2 8 ∷ edition 6 8 10 15 0 2 9 ∷ edition 6 8 10 15 0 1 1 ∷ edition 6 8 10 15 0 0 0 ∷ edition 6 8 10 15 0 3 0 ∷ [])
+    ≡ Of 15 ∷ Refused BadLimits ∷ Refused BadLimits ∷ Refused BadLimits ∷ Refused BadLimits ∷ []
+unfolding penaltyAlone limitsHold lastHolds penalty sqd
+penalty-last = refl
 
 pub penalty-order : map (penaltyAlone (limits 6 8 6 1)) (5 ∷ 6 ∷ 16773121 ∷ [])
     ≡ Refused BadLimits ∷ Refused BadLimits ∷ Refused BadLimits ∷ []
-unfolding penaltyAlone limitsHold
+unfolding penaltyAlone limitsHold lastHolds
 penalty-order = refl
 
 -- ---- the worked moves: "P1's moves are 41 43 33 25 35 28 17; G1's are 39 37 30."
@@ -131,6 +148,46 @@ bests-433 = refl
 pub bests-44355 : bests (spaced 6 8 10 1 2) (4 ∷ 4 ∷ 3 ∷ 5 ∷ 5 ∷ []) (1 ∷ 2 ∷ 3 ∷ 4 ∷ 5 ∷ 6 ∷ []) ≡ 1 ∷ 4 ∷ 4 ∷ 0 ∷ 0 ∷ 0 ∷ []
 unfolding paragraphComputes
 bests-44355 = refl
+
+-- ---- W-205's worked rows: the best of every start and of the end, the chosen next of every start, and the moves of the rules, which run
+-- at every start
+abbrev Worked : Limits → List ℕ → List ℕ → List ℕ → List ℕ → Type 0
+Worked l ws best-strip nexts moves =
+    (entries (λ i. bestEntry (best l ws i)) 1 (length ws + 1) ≡ best-strip) × (entries (chosenNext l ws) 1 (length ws) ≡ nexts)
+    × (map code (queueMoves l ws) ≡ moves)
+
+-- "no setting" as it stands in the strip
+abbrev none : ℕ
+none = 2 ^ 64 - 1
+
+pub last-1 : Worked (edition 1 2 2 1 0 2 2) (1 ∷ []) (none ∷ 0 ∷ []) (0 ∷ []) (17 ∷ [])
+unfolding paragraphComputes
+last-1 = (refl, refl, refl)
+
+-- there the front is 2, and is no chooser
+abbrev text-1 : Text
+text-1 = textOf (edition 1 2 2 1 0 2 2) (1 ∷ [])
+
+abbrev standing-1 : List ℕ
+standing-1 = queueAt text-1 1 1 .stands .queue
+
+pub last-front : (frontNext standing-1 ≡ 2) × (takenBest text-1 1 standing-1 ≡ no-setting) × (takenNext text-1 1 standing-1 ≡ 0)
+unfolding paragraphComputes queueAt takenBest takenNext
+last-front = (refl, refl, refl)
+
+pub last-3223 : Worked (edition 1 6 6 1 0 2 4) (3 ∷ 2 ∷ 2 ∷ 3 ∷ [])
+    (1 ∷ 16 ∷ 0 ∷ none ∷ 0 ∷ []) (3 ∷ 3 ∷ 5 ∷ 0 ∷ []) (41 ∷ 34 ∷ 43 ∷ 25 ∷ 17 ∷ [])
+unfolding paragraphComputes
+last-3223 = (refl, refl, refl)
+
+pub last-322 : Worked (edition 2 4 6 1 0 2 3) (3 ∷ 2 ∷ 2 ∷ []) (1 ∷ 0 ∷ none ∷ 0 ∷ []) (2 ∷ 4 ∷ 0 ∷ []) (33 ∷ 26 ∷ 35 ∷ 17 ∷ [])
+unfolding paragraphComputes
+last-322 = (refl, refl, refl)
+
+pub last-4332 : Worked (edition 2 5 7 1 1 2 4) (4 ∷ 3 ∷ 3 ∷ 2 ∷ [])
+    (1 ∷ 4 ∷ 0 ∷ none ∷ 0 ∷ []) (3 ∷ 5 ∷ 5 ∷ 0 ∷ []) (41 ∷ 34 ∷ 25 ∷ 43 ∷ 17 ∷ [])
+unfolding paragraphComputes
+last-4332 = (refl, refl, refl)
 
 -- ---- other settings: P3's "1 3 costs the same", and "Filling each line as far as it goes: P1 would cost 17."
 pub other-P3 : total (paragraph (limits 2 4 6 1) (3 ∷ 2 ∷ 2 ∷ [])) 1 (3 ∷ []) ≡ total (paragraph (limits 2 4 6 1) (3 ∷ 2 ∷ 2 ∷ [])) 1

@@ -11,8 +11,8 @@ use Rattle.laws.specs.Setting.{Problem}
 use Rattle.laws.specs.Table as Table
 use Rattle.laws.specs.Chosen.{next, follow}
 
--- What a paragraph's lines are: the end, the limits, the least length of the last line, Line, the penalty of a length, and what a break
--- before an index is charged.
+-- What a paragraph's lines are: the end, the limits, the least last length, Line, the penalty of a length, and what a break before an
+-- index is charged.
 pub record Lines : Type 0 where
   pub end : ℕ
   pub lmin : ℕ
@@ -31,7 +31,8 @@ inside low high x = leb low x && leb x high
 abbrev pub Inside : ℕ → ℕ → ℕ → Type 0
 Inside low high x = (low ≤ x) × (x ≤ high)
 
--- "Admissible: every line but the last has lmin ≤ length ≤ lmax; the last has length ≤ lmax." (and at least its least length)
+-- "Admissible: every line but the last has lmin ≤ length ≤ lmax; the last has length ≤ lmax." W-205: "a last line below [the least last
+-- length] is not admissible"
 unfoldable pub admissible : Lines → ℕ → ℕ → Bool
 admissible p i j =
     if (eqb j (p .end)) (inside (p .lastmin) (p .lmax) (p .line i j)) (inside (p .lmin) (p .lmax) (p .line i j))
@@ -56,7 +57,7 @@ settings p = record {
 unfoldable pub best : Lines → ℕ → Cost
 best p i = Table.best (settings p) i
 
--- "Line(i, n+1) ≤ lopt": the rest as one line costs nothing. (It must have the least last length.)
+-- "Line(i, n+1) ≤ lopt": the rest as one line costs nothing. (W-205: it must have the least last length.)
 unfoldable pub free : Lines → ℕ → Bool
 free p i = leb (p .lastmin) (p .line i (p .end)) && leb (p .line i (p .end)) (p .lopt)
 

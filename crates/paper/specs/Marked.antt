@@ -1,5 +1,5 @@
 -- 01, "The compositor's table": the thirteen marked rows as data, what each says of the definitions, and what is computed for it; and the
--- rows of W-202. Assumes nothing.
+-- rows of W-202 and W-205. Assumes nothing.
 use Prim.Native.Nat.{ℕ}
 use mathlib.Core.Path.{_≡_, refl}
 use mathlib.Core.List.{List, [], _∷_, map}
@@ -9,7 +9,7 @@ use Rattle.laws.specs.Setting.{Problem, Best}
 use Rattle.laws.specs.Chosen.{Follows}
 use Rattle.paper.specs.declared.Limits.{Limits}
 use Rattle.paper.specs.declared.PageLimits.{PageLimits}
-use Rattle.paper.specs.Allowed.{spacedLimits, limitsOf, pageLimitsOf}
+use Rattle.paper.specs.Allowed.{editionLimits, spacedLimits, limitsOf, pageLimitsOf}
 use Rattle.paper.specs.Lines.{tie}
 use Rattle.paper.specs.Paragraph as Paragraph
 use Rattle.paper.specs.Paragraph.{lines, paragraph}
@@ -22,12 +22,15 @@ pub data RowLimits : Type 0 where
   lines-in : Limits → RowLimits
   pages-in : PageLimits → RowLimits
 
--- "Limits in the order lmin, lopt, lmax, A, or lmin, lmax.", and those with a space
+-- "Limits in the order lmin, lopt, lmax, A, or lmin, lmax.", those with a space, and those of edition 2
 abbrev para : ℕ → ℕ → ℕ → ℕ → RowLimits
 para lmin lopt lmax a = lines-in (limitsOf lmin lopt lmax a)
 
 abbrev spaced : ℕ → ℕ → ℕ → ℕ → ℕ → RowLimits
 spaced lmin lopt lmax a space = lines-in (spacedLimits lmin lopt lmax a space)
+
+abbrev second : ℕ → ℕ → ℕ → ℕ → ℕ → ℕ → RowLimits
+second lmin lopt lmax a space lastmin = lines-in (editionLimits lmin lopt lmax a space 2 lastmin)
 
 abbrev list : ℕ → ℕ → RowLimits
 list lmin lmax = pages-in (pageLimitsOf lmin lmax)
@@ -76,6 +79,19 @@ spaceTable =
     row (spaced 6 8 10 1 1) (12 ∷ []) NONE ∷
     []
 
+-- W-205's worked rows, under edition 2; then a word of just the least last length, and two that have it with their space, one of them
+-- without it too
+abbrev pub lastTable : List Row
+lastTable =
+    row (second 1 2 2 1 0 2) (1 ∷ []) NONE ∷
+    row (second 1 6 6 1 0 4) (3 ∷ 2 ∷ 2 ∷ 3 ∷ []) (found 1 (1 ∷ 3 ∷ [])) ∷
+    row (second 2 4 6 1 0 3) (3 ∷ 2 ∷ 2 ∷ []) (found 1 (1 ∷ 2 ∷ [])) ∷
+    row (second 2 5 7 1 1 4) (4 ∷ 3 ∷ 3 ∷ 2 ∷ []) (found 1 (1 ∷ 3 ∷ [])) ∷
+    row (second 1 2 2 1 0 2) (2 ∷ []) (found 0 (1 ∷ [])) ∷
+    row (second 1 2 2 1 1 2) (2 ∷ []) NONE ∷
+    row (second 1 2 2 1 1 2) (3 ∷ []) (found 0 (1 ∷ [])) ∷
+    []
+
 -- ---- what the definitions say of a row
 -- v is the least total over all admissible settings from i, and js are the later starts that the tie rule chooses
 abbrev pub Sets : Problem → (ℕ → Tie) → ℕ → ℕ → List ℕ → Type 0
@@ -116,3 +132,7 @@ rows-computed = refl
 pub space-rows-computed : Computed spaceTable
 unfolding computed paragraphComputes
 space-rows-computed = refl
+
+pub last-rows-computed : Computed lastTable
+unfolding computed paragraphComputes
+last-rows-computed = refl

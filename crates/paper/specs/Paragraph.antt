@@ -1,8 +1,10 @@
 -- 01, "The paragraph". Words are numbered from 1, ws has their lengths, and n + 1 is the end. What settings, totals and choices are
--- stands in Lines; here are 01's own lines, less the space (W-202).
+-- stands in Lines; here are 01's own lines, less the space (W-202), with the least last length of an edition (W-205).
 use Prim.Native.Nat.{ℕ, _+_, _-_, _*_}
 use mathlib.Core.List.{List, [], _∷_}
+use lib.Dec.{eqb}
 use lib.ListN.{length, take, drop}
+use Rattle.laws.specs.Number.{if}
 use Rattle.laws.specs.Cost.{Cost}
 use Rattle.laws.specs.Setting.{Problem}
 use Rattle.laws.specs.Square.{sqd}
@@ -31,14 +33,19 @@ end ws = length ws + 1
 unfoldable pub penalty : Limits → ℕ → ℕ
 penalty l x = l .a * sqd x (l .lopt)
 
--- 01's lines, less the space: the last line may be as short as it comes, and a break costs nothing.
+-- W-205: "Edition 2 adds a least last length, lastmin ≤ lopt, and a last line below it is not admissible." Under edition 1 a last line may
+-- be as short as it comes.
+unfoldable pub leastLast : Limits → ℕ
+leastLast l = if (eqb (l .edition) 2) (l .lastmin) 0
+
+-- 01's lines, less the space, with the edition's least last length; a break costs nothing.
 unfoldable pub lines : Limits → List ℕ → Lines
 lines l ws = record {
   end = end ws;
   lmin = l .lmin;
   lopt = l .lopt;
   lmax = l .lmax;
-  lastmin = 0;
+  lastmin = leastLast l;
   line = lineLength l ws;
   penalty = penalty l;
   break = λ j. 0;

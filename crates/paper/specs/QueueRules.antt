@@ -9,7 +9,7 @@ use Rattle.laws.specs.Cost.{Cost, none, some, has?, value}
 use Rattle.paper.specs.declared.Limits.{Limits}
 use Rattle.paper.specs.declared.Kind.the-variants.{Add, Pass, Drop, Pop}
 use Rattle.paper.specs.declared.Move.{Move}
-use Rattle.paper.specs.Lines.{Lines, free}
+use Rattle.paper.specs.Lines.{Lines}
 use Rattle.paper.specs.Paragraph.{line, lines, best}
 use Rattle.paper.specs.Moves.{move, Taken, still, moved, joined}
 
@@ -123,6 +123,7 @@ unfoldable pub queueMoves : Limits → List ℕ → List Move
 queueMoves l ws = afterStarts (textOf l ws) (length ws) (length ws) .moves
 
 -- ---- "Then the start takes n+1 if Line(i, n+1) ≤ lopt; otherwise the front is the chooser; with an empty queue there is no setting."
+-- W-205: "a start whose remaining words, as one line, are shorter than lastmin has no setting. At such a start the front is no chooser."
 abbrev pub frontBest : Text → ℕ → List ℕ → Cost
 frontBest t i [] = none
 frontBest t i (j ∷ q) = some (F t i j)
@@ -131,10 +132,12 @@ abbrev pub frontNext : List ℕ → ℕ
 frontNext [] = 0
 frontNext (j ∷ q) = j
 
--- n+1 is taken at no cost; a rest that is shorter than the least last length has no setting
+-- the remaining words as one line: what is taken where that is shorter than the least last length, where it is at most lopt, and otherwise
+abbrev pub byRest : {A : Type 0} → Lines → ℕ → A → A → A → A
+byRest p i short free long = if (ltb (p .line i (p .end)) (p .lastmin)) short (if (leb (p .line i (p .end)) (p .lopt)) free long)
+
 unfoldable pub takenBest : Text → ℕ → List ℕ → Cost
-takenBest t i q = if (free (t .lines) i) (some 0) (if (leb (t .lines .line i (t .lines .end)) (t .lines .lopt)) none (frontBest t i q))
+takenBest t i q = byRest (t .lines) i none (some 0) (frontBest t i q)
 
 unfoldable pub takenNext : Text → ℕ → List ℕ → ℕ
-takenNext t i q =
-    if (free (t .lines) i) (t .lines .end) (if (leb (t .lines .line i (t .lines .end)) (t .lines .lopt)) 0 (frontNext q))
+takenNext t i q = byRest (t .lines) i 0 (t .lines .end) (frontNext q)

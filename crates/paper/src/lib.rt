@@ -1,6 +1,7 @@
 // The types of document 01, with what 02's requests add. What they mean stands in specs/, in 01's order.
 
-// The limits of a paragraph: lmin, lopt, lmax, A and the space (W-202).
+// The limits of a paragraph: lmin, lopt, lmax, A, the space (W-202), and the edition of the last-line rule with its least last length
+// (W-205).
 #[repr(C)]
 pub struct Limits {
     pub lmin: u32,
@@ -8,6 +9,8 @@ pub struct Limits {
     pub lmax: u32,
     pub a: u32,
     pub space: u32,
+    pub edition: u32,
+    pub lastmin: u32,
 }
 
 // The limits of an index.

@@ -15,8 +15,8 @@ use Rattle.paper.specs.Paragraph as Paragraph
 use Rattle.paper.specs.Paragraph.{paragraph}
 use Rattle.paper.specs.Index as Index
 use Rattle.paper.specs.Index.{index}
-use Rattle.paper.specs.Marked.{RowLimits, lines-in, pages-in, found, Row, table, spaceTable, Given, RowHolds, EachRow, outcomeOf}
-use Rattle.paper.specs.Marked.{computed, Computed, rows-computed, space-rows-computed}
+use Rattle.paper.specs.Marked.{RowLimits, lines-in, pages-in, found, Row, table, spaceTable, lastTable, Given, RowHolds, EachRow, outcomeOf}
+use Rattle.paper.specs.Marked.{computed, Computed, rows-computed, space-rows-computed, last-rows-computed}
 use Rattle.paper_theory.specs.Cheapest.{best-paragraph, paragraph-cheapest, best-index, index-cheapest}
 
 -- there is a word, and lopt is at most lmax
@@ -56,3 +56,7 @@ marked = each-holds table tt rows-computed
 -- and those of W-202
 pub space-marked : EachRow RowHolds spaceTable
 space-marked = each-holds spaceTable tt space-rows-computed
+
+-- and those of W-205
+pub last-marked : EachRow RowHolds lastTable
+last-marked = each-holds lastTable tt last-rows-computed

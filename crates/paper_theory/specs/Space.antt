@@ -1,5 +1,5 @@
--- W-202: with space 0 every definition is 01's; and a space may as well be put on the measure. Assumes nothing but what each theorem
--- states.
+-- W-202: with space 0 every definition is 01's, under edition 1; and a space may as well be put on the measure. Assumes nothing but what
+-- each theorem states.
 use Prim.Native.Nat.{ℕ, _+_, _-_, _*_, _≤_, _<_}
 use mathlib.Core.Path.{_≡_, refl, ap, sym, subst, fun-ext, _∙_}
 use mathlib.Core.Logic.{⊎-elim}
@@ -7,7 +7,7 @@ use mathlib.Core.Bool.{Bool, true, false, _&&_, and-true}
 use mathlib.Core.List.{List, _∷_}
 use native.Mathlib.Nat.{sub-zero}
 use native.Mathlib.Omega.{arith}
-use borrow.Author.Tests.{le-leb, lt-leb}
+use borrow.Author.Tests.{le-leb, lt-leb, eqb-true, eqb-false}
 use lib.Dec.{T, leb, ltb, eqb}
 use lib.ListN.{length}
 use Rattle.laws.specs.Number.{if, split}
@@ -18,16 +18,16 @@ use Rattle.laws.specs.Chosen.{best-alike, next-alike, follow-alike}
 use Rattle.paper.specs.declared.Limits.{Limits}
 use Rattle.paper.specs.Lines as Lines
 use Rattle.paper.specs.Lines.{Lines, admissible, charge, settings, free}
-use Rattle.paper.specs.Allowed.{limitsOf, limitsHold, lengthHolds}
+use Rattle.paper.specs.Allowed.{editionLimits, limitsOf, lastHolds, limitsHold, lengthHolds}
 use Rattle.paper.specs.Paragraph as Paragraph
-use Rattle.paper.specs.Paragraph.{line, lineLength, end, penalty, lines}
+use Rattle.paper.specs.Paragraph.{line, lineLength, end, penalty, leastLast, lines}
 use Rattle.paper.specs.QueueRules.{textOf}
 use Rattle.paper.specs.Told.{firstFailing}
 use Rattle.paper_theory.specs.Ranges.{Ranges}
 use Rattle.paper_theory.specs.Cheapest.{settings-sums}
 use Rattle.paper_theory.specs.Bound.{admissible-lmin}
 
--- ---- 01's own limits, lengths, lines and text. Every other definition only hands the space on to these.
+-- ---- 01's own limits, lengths, lines and text. Every other definition only hands the space and the edition on to these.
 module _ (lmin lopt lmax a : ℕ) where
   abbrev l : Limits
   l = limitsOf lmin lopt lmax a
@@ -35,8 +35,8 @@ module _ (lmin lopt lmax a : ℕ) where
   -- "Paragraph: 1 ≤ lmin ≤ lopt ≤ lmax ≤ 4,095, lmin < lmax, A from 1 to 15."
   pub limits-01 : limitsHold l
       ≡ (leb 1 lmin && (leb lmin lopt && (leb lopt lmax && (leb lmax 4095 && (ltb lmin lmax && (leb 1 a && leb a 15))))))
-  unfolding limitsHold
-  limits-01 = rw (and-true (leb a 15))
+  unfolding limitsHold lastHolds
+  limits-01 = rw (le-leb 0 lopt (omega arith), and-true (leb a 15))
 
   -- "Each length: 1 to 4,095."
   pub lengths-01 : lengthHolds (l .space) ≡ (λ w. leb 1 w && leb w 4095)
@@ -67,7 +67,7 @@ module _ (lmin lopt lmax a : ℕ) where
 
     -- so admissible, charge, best, the chosen next and the breaks, which read nothing else
     pub lines-01 : lines l ws ≡ linesBy (line ws)
-    unfolding lines
+    unfolding lines leastLast
     lines-01 = ap linesBy line-01
 
     -- and F, the rules and the moves
@@ -75,9 +75,14 @@ module _ (lmin lopt lmax a : ℕ) where
     unfolding textOf Paragraph.best
     text-01 = ap (λ (p : Lines). record { lines = p; a = a; apart = line ws; best = Lines.best p }) lines-01
 
--- ---- A paragraph with a space is the paragraph without it whose measure is raised by it.
+-- ---- A paragraph with a space is the paragraph without it whose measure is raised by it, and whose least last length is too, where there
+-- is one.
+abbrev pub raisedLast : ℕ → ℕ → ℕ
+raisedLast space lastmin = if (eqb lastmin 0) 0 (lastmin + space)
+
 abbrev pub raised : Limits → Limits
-raised l = limitsOf (l .lmin + l .space) (l .lopt + l .space) (l .lmax + l .space) (l .a)
+raised l =
+    editionLimits (l .lmin + l .space) (l .lopt + l .space) (l .lmax + l .space) (l .a) 0 (l .edition) (raisedLast (l .space) (l .lastmin))
 
 module _ (l : Limits) (r : Ranges l) (ws : List ℕ) where
   abbrev p : Lines
@@ -93,18 +98,31 @@ module _ (l : Limits) (r : Ranges l) (ws : List ℕ) where
       (λ h. lt-leb (x - l .space) high (omega arith) ∙ sym (lt-leb x (high + l .space) h))
       (split x (high + l .space))
 
-  same-low : (x : ℕ) → leb (l .lmin) (x - l .space) ≡ leb (l .lmin + l .space) x
-  same-low x =
+  same-low : (x low : ℕ) → 1 ≤ low → leb low (x - l .space) ≡ leb (low + l .space) x
+  same-low x low some =
       ⊎-elim
-      (λ h. le-leb (l .lmin) (x - l .space) (omega arith) ∙ sym (le-leb (l .lmin + l .space) x h))
-      (λ h. lt-leb (l .lmin) (x - l .space) (omega (arith, r .lmin-low)) ∙ sym (lt-leb (l .lmin + l .space) x h))
-      (split (l .lmin + l .space) x)
+      (λ h. le-leb low (x - l .space) (omega arith) ∙ sym (le-leb (low + l .space) x h))
+      (λ h. lt-leb low (x - l .space) (omega arith) ∙ sym (lt-leb (low + l .space) x h))
+      (split (low + l .space) x)
+
+  same-none : (x : ℕ) → leb 0 (x - l .space) ≡ leb 0 x
+  same-none x = le-leb 0 (x - l .space) (omega arith) ∙ sym (le-leb 0 x (omega arith))
+
+  same-last : (x : ℕ) → leb (leastLast l) (x - l .space) ≡ leb (leastLast (raised l)) x
+  unfolding leastLast
+  same-last x = go (eqb (l .edition) 2) (eqb (l .lastmin) 0) refl
+    where
+      go : (two zero : Bool) → eqb (l .lastmin) 0 ≡ zero →
+          leb (if two (l .lastmin) 0) (x - l .space) ≡ leb (if two (if zero 0 (l .lastmin + l .space)) 0) x
+      go true true e = rw (eqb-true (l .lastmin) 0 e) (same-none x)
+      go true false e = same-low x (l .lastmin) (omega (arith, eqb-false (l .lastmin) 0 e))
+      go false zero e = same-none x
 
   fits-same : (i j : ℕ) → admissible p i j ≡ admissible q i j
   unfolding admissible lines lineLength
   fits-same i j =
       let x = line ws i j in
-      rw (sub-zero x, same-high x (l .lmax), same-low x, le-leb 0 (x - l .space) (omega arith), le-leb 0 x (omega arith))
+      rw (sub-zero x, same-high x (l .lmax), same-low x (l .lmin) (r .lmin-low), same-last x)
 
   -- a line that is charged is at least lmin, and so its sum at least the space
   charge-raised : (i j : ℕ) → T (admissible p i j) → charge q i j ≡ charge p i j
@@ -149,8 +167,8 @@ module _ (l : Limits) (r : Ranges l) (ws : List ℕ) where
   unfolding Paragraph.chosenNext Lines.chosenNext settings lines free lineLength
   raised-next i early =
       let x = line ws i (end ws) in
-      rw (sub-zero x, same-high x (l .lopt), le-leb 0 (x - l .space) (omega arith), le-leb 0 x (omega arith))
-      (ap (if (leb x (l .lopt + l .space)) (end ws))
+      rw (sub-zero x, same-high x (l .lopt), same-last x)
+      (ap (if (leb (leastLast (raised l)) x && leb x (l .lopt + l .space)) (end ws))
       (next-alike (settings p) (settings q) (settings-sums p) (settings-sums q) there back smallest i early))
 
   pub raised-breaks : 1 ≤ length ws → Paragraph.breaks l ws ≡ Paragraph.breaks (raised l) ws

@@ -9,14 +9,13 @@ use mathlib.Core.List.{List, [], _∷_, _++_, reverse}
 use native.Mathlib.Omega.{arith}
 use lib.Dec.{leb}
 use borrow.Author.Tests.{le-leb}
-use Rattle.laws.specs.Number.{if, split, tested}
+use Rattle.laws.specs.Number.{split, tested}
 use Rattle.laws.specs.Cost.{Cost, none, some, Has}
 use Rattle.laws.specs.Members.{Every, every-map, every-left, every-right, every-reverse, Rises, pairs-reverse}
 use Rattle.paper.specs.declared.Kind.the-variants.{Pass, Drop, Pop}
 use Rattle.paper.specs.Moves.{Taken, move, still, moved, joined}
-use Rattle.paper.specs.Lines.{free}
 use Rattle.paper.specs.QueueRules.{Text, Standing, F, edge, chord, bridged, dropLong, popWorse, popBridged, added, add, consider}
-use Rattle.paper.specs.QueueRules.{candidates, dropWorse, settled, atStart, afterStarts, frontBest, takenBest, takenNext}
+use Rattle.paper.specs.QueueRules.{candidates, dropWorse, settled, atStart, afterStarts, frontBest, byRest, takenBest, takenNext}
 use Rattle.paper.specs.Applied.{popWorseApplied, popBridgedApplied, addApplied, considerApplied, candidatesApplied, dropWorseApplied}
 use Rattle.paper.specs.Applied.{frontApplied, startApplied}
 use Rattle.queue_theory.specs.Scales.{Scaled}
@@ -208,17 +207,11 @@ module _ {t : Text} (s : Scaled t) (end : ℕ) (formula : ℕ → ℕ) {lines : 
   -- what the start takes
   pub taken-same : i ≤ t .lines .end → end ≡ t .lines .end → (q : List ℕ) → Every (Measured t i) q → Every Same (frontApplied t i q) →
       (takenBest u i q ≡ takenBest t i q) × (takenNext u i q ≡ takenNext t i q)
-  unfolding takenBest takenNext free frontApplied
+  unfolding takenBest takenNext frontApplied
   taken-same inside e q live same =
       let w : lines i end ≡ t .lines .line i (t .lines .end) = ap (lines i) e ∙ agrees .from-start (t .lines .end) inside (omega arith) in
-      (rw w (ap (taking (free (t .lines) i) whole) (front q live same)), rw (w, e))
+      (rw w (ap (byRest (t .lines) i none (some 0)) (front q live same)), rw (w, e))
     where
-      whole : Bool
-      whole = leb (t .lines .line i (t .lines .end)) (t .lines .lopt)
-
-      taking : Bool → Bool → Cost → Cost
-      taking f short c = if f (some 0) (if short none c)
-
       front : (q : List ℕ) → Every (Measured t i) q → Every Same (frontApplied t i q) → frontBest u i q ≡ frontBest t i q
       front [] v same = refl
       front (j ∷ q) v same = ap some (F-same j (v .0) (same .0))

@@ -3,23 +3,23 @@
 use Prim.Native.Nat.{ℕ, _+_, _≤_, _<_}
 use mathlib.Core.Path.{_≡_, refl, ap, sym, subst, _∙_}
 use mathlib.Core.Logic.{_↔_, _≢_, ⊎-elim}
-use mathlib.Core.Bool.{Bool, true, false, _&&_}
+use mathlib.Core.Bool.{Bool, true, false, _&&_, and-false}
 use mathlib.Core.List.{List, [], _∷_}
 use native.Mathlib.Omega.{arith}
-use lib.Dec.{T, leb, eqb, leb→le}
-use borrow.Author.Tests.{eqb-true, eq-eqb, lt-leb, le-leb, leb-true, leb-false}
-use Rattle.laws.specs.Number.{if, both, split, true-not-false}
+use lib.Dec.{T, leb, ltb, eqb, leb→le}
+use borrow.Author.Tests.{eqb-true, eq-eqb, lt-leb, le-leb, leb-true, leb-false, ltb-true, ltb-false}
+use Rattle.laws.specs.Number.{if, both}
 use Rattle.laws.specs.Cost.{Cost, none, some, Has, value, has-some, some-not-none, before}
 use Rattle.laws.specs.Search.{smallest}
 use Rattle.laws.specs.Setting.{Choice, Admissible, through}
-use Rattle.laws.specs.Chosen.{Next, next, next-is, next-none, next-unique}
+use Rattle.laws.specs.Chosen.{Next, next, next-is, next-unique}
 use Rattle.laws.specs.Members.{Every, every-map}
 use Rattle.laws.specs.Queue.{Beats, front-least, empty-none}
 use Rattle.laws.specs.Pointer.{Cheaper, cheaper-next, no-next}
 use Rattle.paper.specs.Lines as Lines
 use Rattle.paper.specs.Lines.{Lines, admissible, charge, settings, free}
 use Rattle.paper.specs.QueueRules.{Text, F, frontBest, frontNext, takenBest, takenNext, Standing, queueAt}
-use Rattle.paper_theory.specs.Cheapest.{free-best, lines-none}
+use Rattle.paper_theory.specs.Cheapest.{free-best, chosen-none, lines-none}
 use Rattle.queue_theory.specs.Scales.{Scaled, Bested, line-before, line-shorter}
 use Rattle.queue_theory.specs.Ready.{Measured, stood-after}
 use Rattle.queue_theory.specs.Curves.{Settable, G, F-is}
@@ -211,12 +211,17 @@ module _ {t : Text} (s : Scaled t) (b : Bested t) (n : ℕ) (size : t .lines .en
       unfolding Lines.best settings
       front-best = sym (front-next .gives) ∙ front-via
 
+    chosen-smallest : Lines.chosenNext p i ≡ next (settings p) smallest i
+    unfolding Lines.chosenNext free
+    chosen-smallest = rw (lt-leb (p .line i (p .end)) (p .lopt) long, and-false (leb (p .lastmin) (p .line i (p .end))))
+
     -- "otherwise the front is the chooser; with an empty queue there is no setting"
-    pub front-chooses : (q : List ℕ) → stands .queue ≡ q → (frontBest t i q ≡ Lines.best p i) × (frontNext q ≡ next (settings p) smallest i)
+    pub front-chooses : (q : List ℕ) → stands .queue ≡ q → (frontBest t i q ≡ Lines.best p i) × (frontNext q ≡ Lines.chosenNext p i)
     unfolding Lines.best settings
-    front-chooses [] e = (sym (empty-best e), sym (next-none (settings p) smallest i early (empty-best e)))
+    front-chooses [] e = (sym (empty-best e), sym (chosen-none p (b .lopt-high) i early (empty-best e)))
     front-chooses (h ∷ q) e =
-        (sym (front-best h q e), next-unique (front-next h q e) (next-is (settings p) smallest i early (has-some (front-best h q e))))
+        let is = next-unique (front-next h q e) (next-is (settings p) smallest i early (has-some (front-best h q e))) in
+        (sym (front-best h q e), is ∙ sym chosen-smallest)
 
     -- an empty queue means no setting, and no setting an empty queue
     pub empty-exactly : (stands .queue ≡ []) ↔ (Lines.best p i ≡ none)
@@ -226,7 +231,8 @@ module _ {t : Text} (s : Scaled t) (b : Bested t) (n : ℕ) (size : t .lines .en
         go [] f e = f
         go (h ∷ q) f e = absurd (some-not-none (sym (front-best h q f) ∙ e))
 
-  -- a rest that is shorter than the least last length has no setting: every last line is shorter still
+  -- W-205: "a start whose remaining words, as one line, are shorter than lastmin has no setting": lines to the end only grow as their start
+  -- goes back, so the last line of a setting is no longer than the rest
   last-length : (k : ℕ) (js : List ℕ) → 1 ≤ k → Admissible (settings p) k js → p .lastmin ≤ p .line k (p .end)
   unfolding settings admissible
   last-length k [] from h =
@@ -239,35 +245,33 @@ module _ {t : Text} (s : Scaled t) (b : Bested t) (n : ℕ) (size : t .lines .en
         line-shorter s k j (p .end) from (omega (arith, h .0 .rises)) (h .0 .within) (omega arith),
       )
 
-  short-none : p .line i (p .end) < p .lastmin → Lines.best p i ≡ none
-  short-none short = lines-none p i early .1 (λ js h. omega (arith, last-length i js start h))
+  -- from the least last length to lopt the start takes n+1 at no cost
+  pub free-takes : p .lastmin ≤ p .line i (p .end) → p .line i (p .end) ≤ p .lopt →
+      (Lines.best p i ≡ some 0) × (Lines.chosenNext p i ≡ p .end)
+  unfolding free Lines.chosenNext
+  free-takes low high =
+      let e : free p i ≡ true = rw (le-leb (p .lastmin) (p .line i (p .end)) low, le-leb (p .line i (p .end)) (p .lopt) high) in
+      (free-best p (b .lopt-high) i early e, rw e)
 
-  -- the rest is short, and yet not free: it is too short
-  unfree : free p i ≡ false → p .line i (p .end) ≤ p .lopt → p .line i (p .end) < p .lastmin
-  unfolding free
-  unfree f short =
-      ⊎-elim
-      (λ le. let holds : free p i ≡ true = rw (le-leb (p .lastmin) (p .line i (p .end)) le, le-leb (p .line i (p .end)) (p .lopt) short) in
-      absurd (true-not-false (sym holds ∙ f)))
-      (λ lt. lt)
-      (split (p .lastmin) (p .line i (p .end)))
+  module _ (short : p .line i (p .end) < p .lastmin) where
+    pub short-none : Lines.best p i ≡ none
+    short-none = lines-none p i early .1 (λ js h. omega (arith, last-length i js start h))
 
-  none-next : Lines.best p i ≡ none → next (settings p) smallest i ≡ 0
-  unfolding Lines.best settings
-  none-next e = next-none (settings p) smallest i early e
+    pub short-next : Lines.chosenNext p i ≡ 0
+    short-next = chosen-none p (b .lopt-high) i early short-none
 
   -- Demand 3: what a start takes by the queue rules is its best and its chosen next.
   pub start-takes : (q : List ℕ) → stands .queue ≡ q → (takenBest t i q ≡ Lines.best p i) × (takenNext t i q ≡ Lines.chosenNext p i)
-  unfolding takenBest takenNext Lines.chosenNext
-  start-takes q e = go (free p i) refl (leb (p .line i (p .end)) (p .lopt)) refl
+  unfolding takenBest takenNext
+  start-takes q e = go (ltb rest (p .lastmin)) refl (leb rest (p .lopt)) refl
     where
       rest : ℕ
-      rest = next (settings p) smallest i
+      rest = p .line i (p .end)
 
-      go : (f : Bool) → free p i ≡ f → (c : Bool) → leb (p .line i (p .end)) (p .lopt) ≡ c →
-          (if f (some 0) (if c none (frontBest t i q)) ≡ Lines.best p i) × (if f (p .end) (if c 0 (frontNext q)) ≡ if f (p .end) rest)
-      go true f c g = (sym (free-best p (b .lopt-high) i early f), refl)
-      go false f true g =
-          let nought = short-none (unfree f (leb-true (p .line i (p .end)) (p .lopt) g)) in
-          (sym nought, sym (none-next nought))
-      go false f false g = front-chooses (leb-false (p .line i (p .end)) (p .lopt) g) q e
+      go : (c : Bool) → ltb rest (p .lastmin) ≡ c → (d : Bool) → leb rest (p .lopt) ≡ d →
+          (if c none (if d (some 0) (frontBest t i q)) ≡ Lines.best p i) × (if c 0 (if d (p .end) (frontNext q)) ≡ Lines.chosenNext p i)
+      go true c d g = let short = ltb-true rest (p .lastmin) c in (sym (short-none short), sym (short-next short))
+      go false c true g =
+          let taken = free-takes (ltb-false rest (p .lastmin) c) (leb-true rest (p .lopt) g) in
+          (sym (taken .0), sym (taken .1))
+      go false c false g = front-chooses (leb-false rest (p .lopt) g) q e

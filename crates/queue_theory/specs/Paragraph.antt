@@ -1,13 +1,11 @@
--- The paragraph on its two scales, which are the sums, moved by the space where a line begins; and demand 3 of it. Assumes nothing but
--- what each theorem states.
+-- The paragraph on its two scales, which are the sums, moved by the space where a line begins; and demand 3 of it, once over both editions
+-- of the last-line rule. Assumes nothing but what each theorem states.
 use Prim.Native.Nat.{ℕ, _+_, _-_, _*_, _≤_, _<_}
-use mathlib.Core.Path.{_≡_, refl, ap, sym, _∙_}
+use mathlib.Core.Path.{_≡_, refl, ap}
 use mathlib.Core.Logic.{_↔_}
-use mathlib.Core.Bool.{true}
 use mathlib.Core.List.{List, []}
 use native.Mathlib.Omega.{arith}
 use lib.ListN.{length}
-use borrow.Author.Tests.{le-leb, lt-leb}
 use Rattle.laws.specs.Cost.{Cost, none, some, before}
 use Rattle.laws.specs.Members.{Every, every-map}
 use Rattle.laws.specs.Number.{is-true}
@@ -15,8 +13,8 @@ use Rattle.paper.specs.declared.Limits.{Limits}
 use Rattle.paper.specs.declared.Penalty.the-variants.{Of}
 use Rattle.paper.specs.Allowed.{limitsHold, ParagraphPassed}
 use Rattle.paper.specs.Lines as Lines
-use Rattle.paper.specs.Lines.{Inside, free}
-use Rattle.paper.specs.Paragraph.{line, lineLength, end, penalty, lines, best, chosenNext}
+use Rattle.paper.specs.Lines.{Inside}
+use Rattle.paper.specs.Paragraph.{line, lineLength, end, penalty, leastLast, lines, best, chosenNext}
 use Rattle.paper.specs.QueueRules.{textOf, frontNext, takenBest, takenNext, queueAt, queueMoves, afterStarts}
 use Rattle.paper.specs.Applied.{applied}
 use Rattle.paper.specs.Told.{penaltyAlone}
@@ -24,7 +22,6 @@ use Rattle.paper_theory.specs.Alone.{alone-inside}
 use Rattle.paper_theory.specs.Formula.{byFormula, formula-best, formula-next}
 use Rattle.paper_theory.specs.Ranges.{Ranges, ranges}
 use Rattle.paper_theory.specs.Scale.{upTo, upTo-le, upTo-rise, line-scale, length-scale, length-none}
-use Rattle.paper_theory.specs.Cheapest.{free-best}
 use Rattle.queue_theory.specs.Scales.{Scaled, Bested}
 use Rattle.queue_theory.specs.Ready.{moves-so-far, stood-before}
 use Rattle.queue_theory.specs.Applied.{start-inside}
@@ -60,7 +57,7 @@ module _ (l : Limits) (ws : List ℕ) (passed : ParagraphPassed l ws) where
     joined = λ j h je. nothing-joined (Lines.best (lines l ws) j);
     lopt-low = r .lopt-low;
     lopt-high = r .lopt-high;
-    last-low = omega arith;
+    last-low = omega (arith, r .last-is, r .last-high);
   }
 
   pub size : textOf l ws .lines .end ≡ length ws + 1
@@ -117,24 +114,25 @@ module _ (l : Limits) (ws : List ℕ) (passed : ParagraphPassed l ws) where
     unfolding textOf lines best chosenNext
     start-takes = Front.start-takes scaled bested (length ws) size i start inside standing refl
 
-    -- "n+1 if Line(i, n+1) ≤ lopt": that costs nothing
-    pub short-last : lineLength l ws i (end ws) ≤ l .lopt → (best l ws i ≡ some 0) × (chosenNext l ws i ≡ end ws)
-    unfolding lines best chosenNext free Lines.chosenNext
-    short-last short =
-        let e : free (lines l ws) i ≡ true = rw (
-          le-leb 0 (lineLength l ws i (end ws)) (omega arith),
-          le-leb (lineLength l ws i (end ws))
-              (l .lopt) short,
-        ) in
-        (free-best (lines l ws) (r .lopt-high) i (omega arith) e, rw e)
+    -- W-205: "a start whose remaining words, as one line, are shorter than lastmin has no setting", whatever stands
+    pub below-last : lineLength l ws i (end ws) < leastLast l → (best l ws i ≡ none) × (chosenNext l ws i ≡ 0)
+    unfolding textOf lines best chosenNext
+    below-last short = (
+      Front.short-none scaled bested (length ws) size i start inside short,
+      Front.short-next scaled bested (length ws) size i start inside short,
+    )
+
+    -- "n+1 if Line(i, n+1) ≤ lopt": that costs nothing, from the least last length on
+    pub short-last : leastLast l ≤ lineLength l ws i (end ws) → lineLength l ws i (end ws) ≤ l .lopt →
+        (best l ws i ≡ some 0) × (chosenNext l ws i ≡ end ws)
+    unfolding textOf lines best chosenNext
+    short-last = Front.free-takes scaled bested (length ws) size i start inside
 
     module _ (long : l .lopt < lineLength l ws i (end ws)) where
       -- "otherwise the front is the chooser": 0 where none stands
       pub front-is-next : frontNext standing ≡ chosenNext l ws i
-      unfolding textOf lines chosenNext Lines.chosenNext free
-      front-is-next =
-          Front.front-chooses scaled bested (length ws) size i start inside long standing refl .1
-          ∙ sym (rw (le-leb 0 (lineLength l ws i (end ws)) (omega arith), lt-leb (lineLength l ws i (end ws)) (l .lopt) long))
+      unfolding textOf lines chosenNext
+      front-is-next = Front.front-chooses scaled bested (length ws) size i start inside long standing refl .1
 
       -- "with an empty queue there is no setting"
       pub empty-exactly : (standing ≡ []) ↔ (best l ws i ≡ none)

@@ -9,10 +9,18 @@ pub struct Record {
     pub end: usize,
 }
 
-fn wide(b: u8) -> usize
+fn wide(b: u8) -> u32
     ensures { λ r. ⌜ r < 256 ⌝ }
 {
-    b as usize
+    b as u32
+}
+
+// The number of 2 bytes at a place, low byte first.
+pub fn short(file: &[u8], at: usize) -> u32
+    requires { ⌜ at + 2 ≤ length (now file) ⌝ }
+    ensures { λ r. ⌜ r < 65536 ⌝ }
+{
+    wide(file[at]) + 256 * wide(file[at + 1])
 }
 
 // The record at a place. A job that the file cuts off ends with the file.
@@ -21,7 +29,7 @@ pub fn record_at(file: &[u8], at: usize) -> Record
     ensures { λ r. ⌜ RecordIn (now (file .entry)) at r ⌝ }
 {
     let from = at + 2;
-    let size = wide(file[at]) + 256 * wide(file[at + 1]);
+    let size = short(file, at) as usize;
     if file.len() - from < size {
         return Record {
             from,

@@ -7,10 +7,23 @@ ghost use mathlib.Core.Path.{_≡_};
 ghost use Prim.Native.Nat.{_≤_};
 ghost use lib.Dec.{eqb};
 ghost use lib.ListN.{length};
-ghost use Rattle.paper.specs.Allowed.{lengthHolds, limitsHold, pageLimitsHold};
+ghost use Rattle.paper.specs.Allowed.{lengthHolds, lastHolds, limitsHold, pageLimitsHold};
 ghost use Rattle.paper.specs.Told.{toldRefusal, firstFailing, firstShort, checked};
 ghost use Rattle.refusals.specs.Checks.{wordsFound, lengthsFound, roomFound};
 ghost use Rattle.refusals.specs.Tells.{Tells};
+
+// W-205: "lastmin above lopt, or not 0 under edition 1, or an edition but 1 or 2, is LIMITS"
+fn last_holds(l: Limits) -> bool
+    ensures { λ r. ⌜ r ≡ lastHolds l ⌝ }
+{
+    if l.lopt < l.lastmin {
+        return false;
+    }
+    if l.edition == 1 {
+        return l.lastmin == 0;
+    }
+    l.edition == 2
+}
 
 pub fn limits_hold(l: Limits) -> bool
     ensures { λ r. ⌜ r ≡ limitsHold l ⌝ }
@@ -39,7 +52,7 @@ pub fn limits_hold(l: Limits) -> bool
     if 255 < l.space {
         return false;
     }
-    true
+    last_holds(l)
 }
 
 pub fn page_limits_hold(l: PageLimits) -> bool

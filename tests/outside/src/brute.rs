@@ -1,4 +1,5 @@
-//! The definitions of document 01, with the space of W-202 and nothing clever: every setting and every boundary sequence is listed.
+//! The definitions of document 01, with the space of W-202, the editions of W-205 and nothing clever: every setting and every boundary
+//! sequence is listed.
 use crate::paper::Starts;
 use hathurmo::raw::{Limits, PageLimits};
 use hathurmo::NO_SETTING;
@@ -14,6 +15,15 @@ fn line(l: Limits, words: &[u32]) -> u32 {
     words.iter().sum::<u32>() - l.space
 }
 
+/// The least that a line may have: the last one anything under edition 1, lastmin under edition 2.
+fn least(l: Limits, last: bool) -> u32 {
+    match (last, l.edition) {
+        (false, _) => l.lmin,
+        (true, 1) => 0,
+        (true, _) => l.lastmin,
+    }
+}
+
 /// The total of a setting, where it is admissible.
 fn setting_total(l: Limits, lengths: &[u32], points: &[usize]) -> Option<u64> {
     let n = lengths.len();
@@ -21,7 +31,7 @@ fn setting_total(l: Limits, lengths: &[u32], points: &[usize]) -> Option<u64> {
     for ends in points.windows(2) {
         let x = line(l, &lengths[ends[0] - 1..ends[1] - 1]);
         let last = ends[1] == n + 1;
-        if x > l.lmax || (x < l.lmin && !last) {
+        if x < least(l, last) || l.lmax < x {
             return None;
         }
         let off = u64::from(x.abs_diff(l.lopt));
@@ -35,10 +45,11 @@ pub fn paragraph(l: Limits, lengths: &[u32]) -> Starts {
     let mut starts = Starts { best: vec![0; n + 1], next: vec![0; n + 1] };
     for i in 1..=n {
         let all = (0..1 << (n - i)).map(|bits| points(i, n, bits));
-        let least = all.filter_map(|p| setting_total(l, lengths, &p).map(|total| (total, p[1]))).min();
-        let (best, next) = least.unwrap_or((NO_SETTING, 0));
+        let found = all.filter_map(|p| setting_total(l, lengths, &p).map(|total| (total, p[1]))).min();
+        let (best, next) = found.unwrap_or((NO_SETTING, 0));
+        let free = (least(l, true)..=l.lopt).contains(&line(l, &lengths[i - 1..]));
         starts.best[i - 1] = best;
-        starts.next[i - 1] = if line(l, &lengths[i - 1..]) <= l.lopt { n as u32 + 1 } else { next as u32 };
+        starts.next[i - 1] = if free { n as u32 + 1 } else { next as u32 };
     }
     starts
 }

@@ -20,10 +20,25 @@ fn spaced(lengths: &[u32], space: u32) -> Vec<u32> {
     lengths.iter().map(|length| (length + space).min(4095)).collect()
 }
 
+/// A least last length up to lopt: an end of that range, lmin, any, or within one unit of what some last words are as one line.
+fn lastmin(r: &mut Random, l: Limits, words: &[u32]) -> u32 {
+    let last = r.size(0, words.len().min(4));
+    let rest: u32 = words[words.len() - last..].iter().sum();
+    let near = (rest + r.within(0, 2)).saturating_sub(l.space + 1);
+    let any = r.within(0, l.lopt);
+    r.pick(&[0, 1, l.lmin, l.lopt, any, near, near, near]).min(l.lopt)
+}
+
+/// A paragraph under either edition, the first as often as not.
+fn of_either_edition(r: &mut Random, l: Limits, words: Vec<u32>) -> (Limits, Vec<u32>) {
+    if r.once_in(2) { (l, words) } else { (l.with_lastmin(lastmin(r, l, &words)), words) }
+}
+
 /// A paragraph of these words: a space after each, and limits near what they are then.
 pub fn paragraph(r: &mut Random, lengths: &[u32], widest: u32) -> (Limits, Vec<u32>) {
     let space = space(r);
-    (Limits { space, ..limits(r, (widest + space).min(4095)) }, spaced(lengths, space))
+    let limits = limits(r, (widest + space).min(4095)).with_space(space);
+    of_either_edition(r, limits, spaced(lengths, space))
 }
 
 /// Limits near the lengths, loose or tight, lopt often at an end.
@@ -31,7 +46,7 @@ fn limits(r: &mut Random, widest: u32) -> Limits {
     let lmax = r.within(2, (5 * widest + 2).min(4095));
     let lmin = if r.once_in(3) { 1 } else { r.pick(&[lmax - 1, lmax / 2 + 1, lmax / 3 + 1]).clamp(1, lmax - 1) };
     let between = r.within(lmin, lmax);
-    Limits { lmin, lopt: r.pick(&[lmin, lmax, between, between]), lmax, a: r.pick(&[1, 1, 2, 7, 15]), space: 0 }
+    Limits::new(lmin, r.pick(&[lmin, lmax, between, between]), lmax, r.pick(&[1, 1, 2, 7, 15]))
 }
 
 /// Page limits near the lengths; short pages with a low lmin make the pointer jump.
@@ -45,10 +60,10 @@ pub fn page_limits(r: &mut Random, widest: u32) -> PageLimits {
 /// Lists on which bridging by the second inequality alone often goes wrong: short words, lopt at lmax, lines of a few words.
 pub fn chord_list(r: &mut Random, most: usize) -> (Limits, Vec<u32>) {
     let (lmax, space) = (r.within(4, 12), r.pick(&[0, 0, 1]));
-    let limits = Limits { lmin: r.within(1, 2), lopt: r.pick(&[lmax, lmax, lmax - 1]), lmax, a: r.within(1, 15), space };
+    let limits = Limits::new(r.within(1, 2), r.pick(&[lmax, lmax, lmax - 1]), lmax, r.within(1, 15)).with_space(space);
     let widest = r.within(2, 3);
     let lengths: Vec<u32> = (0..r.size(5, most)).map(|_| r.within(1, widest)).collect();
-    (limits, spaced(&lengths, space))
+    of_either_edition(r, limits, spaced(&lengths, space))
 }
 
 /// Lists on which the space taken off in the crossing test often goes wrong: words little longer than their space, lmin 1.
@@ -56,14 +71,22 @@ pub fn crossing_list(r: &mut Random, most: usize) -> (Limits, Vec<u32>) {
     let (space, widest) = (r.pick(&[1, 1, 2, 3, 5, 255]), r.within(1, 3));
     let lmax = r.within(space + 2, 4 * (space + widest));
     let (inside, low) = (r.within(1, lmax), r.within(1, space + 2));
-    let limits = Limits { lmin: 1, lopt: r.pick(&[lmax, lmax - 1, inside, low]).min(lmax), lmax, a: r.within(1, 15), space };
+    let limits = Limits::new(1, r.pick(&[lmax, lmax - 1, inside, low]).min(lmax), lmax, r.within(1, 15)).with_space(space);
     let lengths: Vec<u32> = (0..r.size(4, most)).map(|_| r.within(1, widest)).collect();
-    (limits, spaced(&lengths, space))
+    of_either_edition(r, limits, spaced(&lengths, space))
 }
 
-/// The limits of the same paragraph with the space at the end of each line counted: each raised by it.
+/// The limits of the same paragraph with the space at the end of each line counted: each raised by it. A lastmin of 0 asks nothing, and
+/// stays.
 pub fn raised(l: Limits) -> Limits {
-    Limits { lmin: l.lmin + l.space, lopt: l.lopt + l.space, lmax: l.lmax + l.space, a: l.a, space: 0 }
+    let lastmin = if l.lastmin == 0 { 0 } else { l.lastmin + l.space };
+    Limits { lmin: l.lmin + l.space, lopt: l.lopt + l.space, lmax: l.lmax + l.space, space: 0, lastmin, ..l }
+}
+
+/// The limits of the same paragraph under edition 1, and under edition 2 with lastmin 0.
+pub fn both_editions(l: Limits) -> [Limits; 2] {
+    let first = Limits::new(l.lmin, l.lopt, l.lmax, l.a).with_space(l.space);
+    [first, first.with_lastmin(0)]
 }
 
 /// A paragraph with a space whose raised limits are limits too.
@@ -89,7 +112,8 @@ pub fn long_lengths(r: &mut Random) -> (Vec<u32>, u32) {
 /// A long paragraph of these words, a space after each.
 pub fn long_paragraph(r: &mut Random, lengths: &[u32], widest: u32) -> (Limits, Vec<u32>) {
     let space = space(r);
-    (Limits { space, ..long_limits(r, widest + space) }, spaced(lengths, space))
+    let limits = long_limits(r, widest + space).with_space(space);
+    of_either_edition(r, limits, spaced(lengths, space))
 }
 
 /// Measures for long lists, from one word a line to thousands.
@@ -97,7 +121,7 @@ fn long_limits(r: &mut Random, widest: u32) -> Limits {
     let words = r.pick(&[1, 4, 12, 100, 600, 4095]);
     let lmax = widest.saturating_mul(words).clamp(2, 4095);
     let lmin = r.pick(&[1, lmax / 2, lmax * 3 / 4, lmax - 1]).clamp(1, lmax - 1);
-    Limits { lmin, lopt: r.within(lmin, lmax), lmax, a: r.within(1, 15), space: 0 }
+    Limits::new(lmin, r.within(lmin, lmax), lmax, r.within(1, 15))
 }
 
 pub fn long_page_limits(r: &mut Random, widest: u32) -> PageLimits {
@@ -112,12 +136,24 @@ fn odd_number(r: &mut Random) -> u32 {
     r.pick(&[0, 1, 15, 16, 255, 256, 4095, 4096, 4097, 65_535, 65_536, 16_773_120, 16_773_121, u32::MAX, any])
 }
 
+/// The edition or lastmin at or past a bound of its own, or like a good one in its low bytes, or odd.
+fn damaged_last(r: &mut Random, l: Limits) -> Limits {
+    let odd = odd_number(r);
+    if r.once_in(2) {
+        return Limits { edition: r.pick(&[0, 1, 2, 3, 0x0102, 0x1_0001, 0x1_0002, odd]), ..l };
+    }
+    Limits { lastmin: r.pick(&[0, 1, l.lopt, l.lopt + 1, l.lmax, l.lmax + 1, l.lopt | 0x1_0000, odd]), ..l }
+}
+
 /// One of the limits becomes odd.
 pub fn damaged_limits(r: &mut Random, l: Limits) -> Limits {
+    if r.once_in(3) {
+        return damaged_last(r, l);
+    }
     let mut numbers = [l.lmin, l.lopt, l.lmax, l.a, l.space];
     numbers[r.size(0, 4)] = odd_number(r);
     let [lmin, lopt, lmax, a, space] = numbers;
-    Limits { lmin, lopt, lmax, a, space }
+    Limits { lmin, lopt, lmax, a, space, ..l }
 }
 
 pub fn damaged_page_limits(r: &mut Random, l: PageLimits) -> PageLimits {

@@ -7,6 +7,7 @@ mod paper;
 mod random;
 
 use hathurmo::raw::{Limits, PageLimits};
+use hathurmo::NO_SETTING;
 use random::Random;
 use std::sync::atomic::{AtomicUsize, Ordering};
 use std::sync::Mutex;
@@ -15,12 +16,13 @@ const SEED: u64 = 19_870_001;
 /// Each kind of case is split into so many parts; a part has its own seed, so the number of threads changes nothing.
 const PARTS: usize = 16;
 
-/// What was met: calls, refusals by number, moves by kind.
+/// What was met: calls, refusals by number, moves by kind, starts below the least last length with a front.
 #[derive(Default)]
 struct Tally {
     calls: usize,
     numbers: [usize; 8],
     kinds: [usize; 8],
+    barred: usize,
 }
 
 impl Tally {
@@ -34,6 +36,7 @@ impl Tally {
 
     fn join(&mut self, other: &Tally) {
         self.calls += other.calls;
+        self.barred += other.barred;
         for k in 0..8 {
             self.numbers[k] += other.numbers[k];
             self.kinds[k] += other.kinds[k];
@@ -47,6 +50,7 @@ fn set_paragraph(tally: &mut Tally, r: &mut Random, limits: Limits, lengths: &[u
     let said = |what| format!("{what}\n  paragraph {limits:?}, lengths {lengths:?}, strips lent {lent:?}");
     let (told, outcome) = call::paragraph(limits, lengths, lent, r).map_err(said)?;
     tally.note(told.number, &outcome.narrow[3]);
+    tally.barred += outcome.barred;
     Ok(())
 }
 
@@ -96,17 +100,80 @@ fn crossing_lists(r: &mut Random, tally: &mut Tally) -> Done {
     set_paragraph(tally, r, limits, &lengths, &paper::paragraph_room(lengths.len()))
 }
 
-/// A paragraph with a space is the one without it whose lmin, lopt and lmax are each raised by it: the library says and writes the same.
+/// The library says and writes the same under both limits, in strips that are now and then too short.
+fn set_both(tally: &mut Tally, r: &mut Random, both: [Limits; 2], lengths: &[u32]) -> Done {
+    let needed = paper::paragraph_room(lengths.len());
+    let lent = if r.once_in(8) { cases::lent_near(r, &needed) } else { cases::lent_enough(r, &needed) };
+    let said = |what| format!("{what}\n  paragraph {both:?}, lengths {lengths:?}, strips lent {lent:?}");
+    let told = call::same_paragraph(both, lengths, &lent, r).map_err(said)?;
+    tally.note(told.number, &[]);
+    tally.note(told.number, &[]);
+    Ok(())
+}
+
+/// A paragraph with a space is the one without it whose lmin, lopt, lmax and, but for 0, lastmin are each raised by it.
 fn raised_limits(r: &mut Random, tally: &mut Tally) -> Done {
     let most = r.pick(&[6, 30, 200]);
     let (limits, lengths) = cases::raisable_list(r, most);
-    let needed = paper::paragraph_room(lengths.len());
-    let lent = if r.once_in(8) { cases::lent_near(r, &needed) } else { cases::lent_enough(r, &needed) };
-    let both = [limits, cases::raised(limits)];
-    let said = |what| format!("{what}\n  paragraph {both:?}, lengths {lengths:?}, strips lent {lent:?}");
-    let told = call::same_paragraph(both, &lengths, &lent, r).map_err(said)?;
-    tally.note(told.number, &[]);
-    tally.note(told.number, &[]);
+    set_both(tally, r, [limits, cases::raised(limits)], &lengths)
+}
+
+/// Edition 2 with lastmin 0 is edition 1, where the other limits or the lengths are bad too.
+fn equal_editions(r: &mut Random, tally: &mut Tally) -> Done {
+    let most = r.pick(&[6, 30, 200]);
+    let (lengths, widest) = cases::short_lengths(r, most);
+    let (mut limits, mut lengths) = match r.within(1, 4) {
+        1 => cases::chord_list(r, most),
+        2 => cases::crossing_list(r, most),
+        _ => cases::paragraph(r, &lengths, widest),
+    };
+    if r.once_in(16) {
+        limits = cases::damaged_limits(r, limits);
+    }
+    if r.once_in(16) {
+        lengths = cases::damaged_lengths(r, lengths, limits.space);
+    }
+    set_both(tally, r, cases::both_editions(limits), &lengths)
+}
+
+/// W-205's worked cases: limits, lengths, refusal, total, breaks, best, next, moves.
+type Worked = (Limits, &'static [u32], u32, u64, &'static [u32], &'static [u64], &'static [u32], &'static [u32]);
+
+const WORKED: [Worked; 4] = [
+    (Limits::new(1, 2, 2, 1).with_lastmin(2), &[1], 6, 0, &[], &[NO_SETTING, 0], &[0, 0], &[17]),
+    (
+        Limits::new(1, 6, 6, 1).with_lastmin(4),
+        &[3, 2, 2, 3],
+        0,
+        1,
+        &[1, 3],
+        &[1, 16, 0, NO_SETTING, 0],
+        &[3, 3, 5, 0, 0],
+        &[41, 34, 43, 25, 17],
+    ),
+    (Limits::new(2, 4, 6, 1).with_lastmin(3), &[3, 2, 2], 0, 1, &[1, 2], &[1, 0, NO_SETTING, 0], &[2, 4, 0, 0], &[33, 26, 35, 17]),
+    (
+        Limits::new(2, 5, 7, 1).with_space(1).with_lastmin(4),
+        &[4, 3, 3, 2],
+        0,
+        1,
+        &[1, 3],
+        &[1, 4, 0, NO_SETTING, 0],
+        &[3, 5, 5, 0, 0],
+        &[41, 34, 25, 43, 17],
+    ),
+];
+
+/// The worked cases as they were worked on paper; the library is then compared with what `paper` says of them.
+fn worked_last_lines(r: &mut Random, tally: &mut Tally) -> Done {
+    for (limits, lengths, number, total, breaks, best, next, moves) in WORKED {
+        let lent = cases::lent_enough(r, &paper::paragraph_room(lengths.len()));
+        let outcome = paper::paragraph(limits, lengths, &lent);
+        assert_eq!((outcome.told.number, outcome.told.total), (number, total), "{limits:?}");
+        assert_eq!(outcome.best, best, "{limits:?}");
+        assert_eq!(outcome.narrow, [&paper::sums(lengths), next, &vec![0; lengths.len()], moves, breaks], "{limits:?}");
+        set_paragraph(tally, r, limits, lengths, &lent)?;
+    }
     Ok(())
 }
 
@@ -149,9 +216,11 @@ fn strip_lengths(r: &mut Random, tally: &mut Tally) -> Done {
     let near = |needed: Vec<usize>, number| -> Vec<usize> {
         needed.iter().zip(thirds(number, needed.len())).map(|(needed, third)| needed + third - 1).collect()
     };
+    let first = Limits::new(1, 5, 6, 2).with_space(space);
+    let limits = r.pick(&[first, first.with_lastmin(4)]);
     for number in 0..3usize.pow(6) {
         let lent = near(paper::paragraph_room(lengths.len()), number);
-        set_paragraph(tally, r, Limits { lmin: 1, lopt: 5, lmax: 6, a: 2, space }, &lengths, &lent)?;
+        set_paragraph(tally, r, limits, &lengths, &lent)?;
     }
     for number in 0..3usize.pow(7) {
         let lent = near(paper::index_room(lengths.len()), number);
@@ -232,7 +301,7 @@ fn wrapped(r: &mut Random, tally: &mut Tally) -> Done {
 /// A kind of case: its name, how many there are, and one of them.
 type Kind = (&'static str, usize, fn(&mut Random, &mut Tally) -> Done);
 
-const KINDS: [Kind; 14] = [
+const KINDS: [Kind; 16] = [
     ("every setting listed", 128_000, brute_lists),
     ("short lists", 240_000, short_lists),
     ("lists up to 400", 16_000, middle_lists),
@@ -247,6 +316,8 @@ const KINDS: [Kind; 14] = [
     ("the safe wrapper", 30_000, wrapped),
     ("crossing lists with a space", 96_000, crossing_lists),
     ("a space and raised limits", 80_000, raised_limits),
+    ("edition 2 with lastmin 0 and edition 1", 48_000, equal_editions),
+    ("worked last lines", PARTS, worked_last_lines),
 ];
 
 fn run_part(kind: usize, part: usize) -> Result<Tally, String> {
@@ -278,7 +349,7 @@ fn work(next: &AtomicUsize, tallies: &Mutex<Vec<Tally>>) {
     }
 }
 
-/// What was compared; fails where some refusal or some kind of move was never met, for then little was shown.
+/// What was compared; fails where some refusal, some kind of move or some such start was never met, for then little was shown.
 fn report(tallies: &[Tally]) {
     let mut all = Tally::default();
     for ((name, _, _), tally) in KINDS.iter().zip(tallies) {
@@ -292,7 +363,8 @@ fn report(tallies: &[Tally]) {
     };
     println!("{:>9} calls in all: {}", all.calls, join(&names, &all.numbers).join(", "));
     println!("moves compared: {}", join(&kinds[1..], &all.kinds[1..]).join(", "));
-    assert!(all.numbers.iter().all(|&count| count > 0) && all.kinds[1..].iter().all(|&count| count > 0));
+    println!("starts below the least last length with a front, which is no chooser: {}", all.barred);
+    assert!(all.numbers.iter().all(|&count| count > 0) && all.kinds[1..].iter().all(|&count| count > 0) && all.barred > 0);
     println!("every answer and every entry as documents 01 and 02 say");
 }
 

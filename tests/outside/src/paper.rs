@@ -1,15 +1,17 @@
-//! Document 01 once more, with the space of W-202, as plainly as can be: for each start every next is tried. Only the moves need the
-//! queue and pointer rules; these run over bests that were found the plain way, and must come to the same nexts.
+//! Document 01 once more, with the space of W-202 and the editions of W-205, as plainly as can be: for each start every next is tried. Only
+//! the moves need the queue and pointer rules; these run over bests that were found the plain way, and must come to the same nexts.
 use hathurmo::raw::{Limits, PageLimits, Told};
 use hathurmo::NO_SETTING;
 use std::collections::VecDeque;
 
-/// What a call must tell, and the front of each strip that it must write. `narrow` has the strips but best, in 01's order.
+/// What a call must tell, and the front of each strip that it must write. `narrow` has the strips but best, in 01's order. `barred` is how
+/// many starts of a paragraph have a front that is no chooser, their rest being below the least last length.
 #[derive(Debug)]
 pub struct Outcome {
     pub told: Told,
     pub best: Vec<u64>,
     pub narrow: Vec<Vec<u32>>,
+    pub barred: usize,
 }
 
 /// Best and next of each start, the end last.
@@ -37,11 +39,25 @@ fn penalty(l: Limits, x: u32) -> u64 {
     u64::from(l.a) * u64::from(x.abs_diff(l.lopt)).pow(2)
 }
 
+/// The least last length, per edition.
+fn least_last(l: Limits) -> u32 {
+    if l.edition == 2 { l.lastmin } else { 0 }
+}
+
 // ---- refusals 1 to 5 ----
+
+/// W-205: above lopt, or not 0 under edition 1, or an edition but 1 or 2.
+fn edition_holds(l: Limits) -> bool {
+    match l.edition {
+        1 => l.lastmin == 0,
+        2 => l.lastmin <= l.lopt,
+        _ => false,
+    }
+}
 
 pub fn limits_hold(l: Limits) -> bool {
     let measure = (1..=l.lopt).contains(&l.lmin) && (l.lopt..=4095).contains(&l.lmax) && l.lmin != l.lmax;
-    measure && (1..=15).contains(&l.a) && l.space <= 255
+    measure && (1..=15).contains(&l.a) && l.space <= 255 && edition_holds(l)
 }
 
 pub fn page_limits_hold(l: PageLimits) -> bool {
@@ -75,7 +91,7 @@ fn refused(limits_good: bool, space: u32, lengths: &[u32], needed: &[usize], len
 
 /// Nothing is written.
 fn untouched(told: Told, narrow: usize) -> Outcome {
-    Outcome { told, best: vec![], narrow: vec![vec![]; narrow] }
+    Outcome { told, best: vec![], narrow: vec![vec![]; narrow], barred: 0 }
 }
 
 /// The answer strip is the last; NONE leaves it alone.
@@ -93,7 +109,7 @@ fn outcome(starts: Starts, first_narrow: Vec<Vec<u32>>, moves: Vec<u32>, answer:
     };
     let mut narrow = first_narrow;
     narrow.extend([moves, answer]);
-    Outcome { told, best: starts.best, narrow }
+    Outcome { told, best: starts.best, narrow, barred: 0 }
 }
 
 // ---- the paragraph ----
@@ -110,7 +126,8 @@ pub fn paragraph_starts(l: Limits, sums: &[u32]) -> Starts {
                 break;
             }
             let last = j == n + 1;
-            if starts.best[j - 1] == NO_SETTING || (!last && x < l.lmin) {
+            let least = if last { least_last(l) } else { l.lmin };
+            if starts.best[j - 1] == NO_SETTING || x < least {
                 continue;
             }
             let total = starts.best[j - 1] + if last && x <= l.lopt { 0 } else { penalty(l, x) };
@@ -207,20 +224,26 @@ impl Queue<'_> {
     }
 }
 
-/// The moves of the queue rules. Where the front is the chooser it must be the next that the plain way found.
-fn queue_moves(l: Limits, sums: &[u32], starts: &Starts) -> Vec<u32> {
+/// The moves of the queue rules, and at how many starts a front stands that is no chooser. Where the front is the chooser it must be the
+/// next that the plain way found; below the least last length that way must have found none.
+fn queue_moves(l: Limits, sums: &[u32], starts: &Starts) -> (Vec<u32>, usize) {
     let n = sums.len() - 1;
     let mut queue = Queue { l, sums, best: &starts.best, members: VecDeque::new(), moves: vec![] };
     let mut candidate = n + 1;
+    let mut barred = 0;
     for i in (1..=n).rev() {
         candidate = queue.at_start(i, candidate);
-        if sums[n] - sums[i - 1] - l.space > l.lopt {
-            let front = queue.members.front().map_or(0, |&front| front as u32);
+        let front = queue.members.front().map_or(0, |&front| front as u32);
+        let rest = sums[n] - sums[i - 1] - l.space;
+        if rest > l.lopt {
             assert_eq!(front, starts.next[i - 1], "the front is the chosen next of start {i}");
+        } else if rest < least_last(l) {
+            assert_eq!(starts.next[i - 1], 0, "start {i} has no setting");
+            barred += usize::from(front != 0);
         }
     }
     assert!(queue.moves.len() <= 2 * n);
-    queue.moves
+    (queue.moves, barred)
 }
 
 pub fn paragraph(l: Limits, lengths: &[u32], lent: &[usize]) -> Outcome {
@@ -230,7 +253,7 @@ pub fn paragraph(l: Limits, lengths: &[u32], lent: &[usize]) -> Outcome {
     }
     let sums = sums(lengths);
     let starts = paragraph_starts(l, &sums);
-    let moves = queue_moves(l, &sums, &starts);
+    let (moves, barred) = queue_moves(l, &sums, &starts);
     let mut breaks = vec![];
     let mut at = 1;
     while 0 < at && at <= n {
@@ -238,7 +261,7 @@ pub fn paragraph(l: Limits, lengths: &[u32], lent: &[usize]) -> Outcome {
         at = starts.next[at - 1] as usize;
     }
     let first = vec![sums, starts.next.clone(), vec![0; n]];
-    outcome(starts, first, moves, breaks)
+    Outcome { barred, ..outcome(starts, first, moves, breaks) }
 }
 
 // ---- the index ----
@@ -361,7 +384,7 @@ pub fn index(l: PageLimits, lengths: &[u32], lent: &[usize]) -> Outcome {
 
 // ---- the penalty alone and the job reader ----
 
-/// The length is the line's own, the space already off.
+/// The length is the line's own, the space already off. Which line it is nobody says, so no length is compared with lastmin.
 pub fn penalty_alone(l: Limits, length: u32) -> Told {
     if !limits_hold(l) {
         return told(3, 0);

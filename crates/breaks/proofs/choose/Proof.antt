@@ -6,19 +6,19 @@ use Rattle.breaks.proofs.choose.Statement.{statement}
 use Rattle.breaks.proofs.choose.Tie as tie
 
 returns : tie.Need-returns
-returns c = taking-end (search needs) (c .if1 .taken)
+returns c = taking-end (search needs) (c .before .if1 .taken) (c .by-end .ensures)
 
 returns-2 : tie.Need-returns-2
 returns-2 c = taking-none (search needs) (c .before .before .if1 .left) (c .if2 .taken)
 
-mul-t10 : tie.Need-mul-t10
-mul-t10 c =
-    let pre = c .before .before .before .before .pre in
+mul-t13 : tie.Need-mul-t13
+mul-t13 c =
+    let pre = c .before .before .before .before .before .pre in
     omega (arith, stands-some pre (c .if2 .left), pre .standing, pre .short)
 
-shared-slice-read-t12 : tie.Need-shared-slice-read-t12
-shared-slice-read-t12 c =
-    let pre = c .before .before .before .before .before .pre in
+shared-slice-read-t15 : tie.Need-shared-slice-read-t15
+shared-slice-read-t15 c =
+    let pre = c .before .before .before .before .before .before .pre in
     omega (arith, stands-some pre (c .before .if2 .left), pre .standing)
 
 returns-3 : tie.Need-returns-3
@@ -30,8 +30,10 @@ choose-spec =
     (tie.spec
     (λ c. search needs)
     (λ c. search needs)
+    (λ c. search needs)
+    (λ c κs. search needs)
     returns
     returns-2
-    mul-t10
-    shared-slice-read-t12
+    mul-t13
+    shared-slice-read-t15
     returns-3)

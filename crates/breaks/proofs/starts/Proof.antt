@@ -35,8 +35,8 @@ begun at = at .before .before .before .before .before .before .before .before .b
 measure-from-requires : tie.Need-measure-from-requires Inv-loop μ-loop
 measure-from-requires c κs = first-begins (c .before .before .before .before .before .before .pre) (omega arith)
 
-short-starts-requires : tie.Need-short-starts-requires Inv-loop μ-loop
-short-starts-requires c κs =
+last-starts-requires : tie.Need-last-starts-requires Inv-loop μ-loop
+last-starts-requires c κs =
     let pre = c .before .before .before .before .before .before .before .before .before .pre in
     record { holds = pre .holds; best = pre .best; next = pre .next }
 
@@ -44,7 +44,7 @@ loop-holds : tie.Need-loop-holds Inv-loop μ-loop
 loop-holds c =
     let begins = c .before .before .before .before in
     let pre = begins .before .before .before .before .before .before .before .before .before .before .pre in
-    begun-started (begins .short-starts .ensures) _ _ (pre .queue)
+    begun-started (begins .last-starts .ensures) _ _ (pre .queue)
 
 sub-moved : tie.Need-sub-moved Inv-loop μ-loop
 sub-moved c = omega (arith, c .loop-test .taken)
@@ -89,9 +89,24 @@ at-start-requires c κs =
     started-asks (at .loop .inv) (roomy (begun at .pre)) (entered placed .loop-test .taken) (lined at .measure-from .ensures) _
     (placed .moved .ensures)
 
+sub-settle : tie.Need-sub-settle Inv-loop μ-loop
+sub-settle c = omega (arith, entered (measured (c .before .before .before .before)) .loop-test .taken)
+
+mul-settle : tie.Need-mul-settle Inv-loop μ-loop
+mul-settle c =
+    let at = entered (measured (c .before .before .before .before)) in
+    let start = begun (at .before) in
+    omega (arith, at .loop-test .taken, at .before .loop .inv .low, start .pre .queue, many (start .pre), start .good)
+
+shared-slice-read-settle : tie.Need-shared-slice-read-settle Inv-loop μ-loop
+shared-slice-read-settle c =
+    let at = entered (measured (c .before .before .before .before .before)) in
+    let start = begun (at .before) in
+    omega (arith, at .loop-test .taken, at .before .loop .inv .low, start .pre .queue, many (start .pre))
+
 settle-requires : tie.Need-settle-requires Inv-loop μ-loop
 settle-requires c κs =
-    let ran = c .before .before .before .before .before .before .before in
+    let ran = c .before .before .before .before .before .before .before .before in
     let placed = measured ran in
     let at = entered placed .before in
     started-settle (at .loop .inv) (roomy (begun at .pre)) (entered placed .loop-test .taken) (lined at .measure-from .ensures) _
@@ -99,7 +114,7 @@ settle-requires c κs =
 
 add-t24 : tie.Need-add-t24 Inv-loop μ-loop
 add-t24 c =
-    let ran = c .before .before .before .before .before .before .before .before .before .before .before .before .before in
+    let ran = c .before .before .before .before .before .before .before .before .before .before .before .before .before .before in
     let placed = measured ran in
     let at = entered placed .before in
     omega (
@@ -111,17 +126,17 @@ add-t24 c =
 
 sub-i : tie.Need-sub-i Inv-loop μ-loop
 sub-i c =
-    let ran = c .before .before .before .before .before .before .before .before .before .before .before .before .before in
+    let ran = c .before .before .before .before .before .before .before .before .before .before .before .before .before .before in
     omega (arith, entered (measured ran) .loop-test .taken)
 
 loop-less : tie.Need-loop-less Inv-loop μ-loop
 loop-less c =
-    let ran = c .before .before .before .before .before .before .before .before .before .before .before .before .before in
+    let ran = c .before .before .before .before .before .before .before .before .before .before .before .before .before .before in
     omega (arith, entered (measured ran) .loop-test .taken)
 
 loop-again : tie.Need-loop-again Inv-loop μ-loop
 loop-again c =
-    let ran = c .before .before .before .before .before .before .before .before .before .before .before .before .before in
+    let ran = c .before .before .before .before .before .before .before .before .before .before .before .before .before .before in
     let placed = measured ran in
     let at = entered placed .before in
     started-next (at .loop .inv) (roomy (begun at .pre)) (entered placed .loop-test .taken) (lined at .measure-from .ensures) _
@@ -154,7 +169,7 @@ starts-spec =
     (λ c. search needs)
     (λ c. search needs)
     measure-from-requires
-    short-starts-requires
+    last-starts-requires
     loop-holds
     sub-moved
     mul-moved
@@ -165,6 +180,9 @@ starts-spec =
     part-at-start-start
     (λ c. search needs)
     at-start-requires
+    sub-settle
+    mul-settle
+    shared-slice-read-settle
     settle-requires
     add-t24
     sub-i

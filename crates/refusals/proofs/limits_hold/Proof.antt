@@ -1,6 +1,7 @@
 -- `refusals::limits_hold` meets its contract: at each exit a range is broken, or none is. Assumes nothing.
 use native.Mathlib.Omega.{arith}
-use Rattle.refusals.proofs.Limits.{limits-fail, limits-kept}
+use borrow.Author.Needs.{needs}
+use Rattle.refusals.proofs.Limits.{limits-fail, limits-last}
 use Rattle.refusals.proofs.limits_hold.Statement.{statement}
 use Rattle.refusals.proofs.limits_hold.Tie as tie
 
@@ -16,4 +17,5 @@ limits-hold-spec =
     (λ c. limits-fail _ (λ r. omega arith))
     (λ c. limits-fail _ (λ r. omega arith))
     (λ c. limits-fail _ (λ r. omega arith))
-    (λ c. limits-kept _ (omega arith)))
+    (λ c κs. search needs)
+    (λ c. limits-last _ (omega arith) (c .last-holds .ensures)))
