@@ -11,7 +11,7 @@ use queue::{Queue, at_start};
 use strips::{NONE, clear, fill_sums, follow};
 
 // The best of a start and its chosen next.
-#[derive(Drop)]
+#[derive(Clone, Copy)]
 pub struct Chosen {
     pub cost: u64,
     pub next: u32,

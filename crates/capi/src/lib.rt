@@ -15,7 +15,7 @@ use setter::{penalty_alone, set_index, set_paragraph};
 
 // 01's number (0 where something is set), place, total, lines and moves.
 #[repr(C)]
-#[derive(Drop)]
+#[derive(Clone, Copy)]
 pub struct Numbers {
     pub number: u32,
     pub place: u64,
@@ -26,7 +26,7 @@ pub struct Numbers {
 
 // 01's number and place, the first count, the limits, and n.
 #[repr(C)]
-#[derive(Drop)]
+#[derive(Clone, Copy)]
 pub struct JobNumbers {
     pub number: u32,
     pub place: u64,

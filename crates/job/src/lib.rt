@@ -7,21 +7,21 @@ ghost use Rattle.laws.specs.Outcome.{Promise, Is};
 use paper::{Limits, PageLimits, Refusal};
 
 // What a job asks for, with its limits.
-#[derive(Drop)]
+#[derive(Clone, Copy)]
 pub enum Asked {
     Paragraph(Limits),
     Index(PageLimits),
 }
 
 // The limits of a job: their count, and what they ask for. W-202: "Count 4 means space 0." A caller is told the count all the same.
-#[derive(Drop)]
+#[derive(Clone, Copy)]
 pub struct JobLimits {
     pub count: u32,
     pub asked: Asked,
 }
 
 // The answer of the reader: the limits and n, the lengths being in their strip; or a refusal.
-#[derive(Drop)]
+#[derive(Clone, Copy)]
 pub enum Job {
     Read(JobLimits, usize),
     Refused(Refusal),

@@ -1,5 +1,7 @@
 // Lines, their penalties, and the test of "bridged", on numbers. Every function here is a workshop part: it asks what its callers
 // meet.
+#![tactic(auto)]
+
 ghost use Rattle.std.specs.Prelude.{◌≡◌, ◌-◌, ◌*◌, ◌^◌, ◌<◌, length, get_or};
 ghost use Rattle.laws.specs.Square.{sqd};
 ghost use Rattle.paper_theory.specs.Ranges.{Ranges};
@@ -13,7 +15,7 @@ use paper::Limits;
 use strips::long;
 
 // Where a line from a start is inside the measure: it ends at near to far, at best at goal.
-#[derive(Drop)]
+#[derive(Clone, Copy)]
 pub struct Measure {
     pub near: u32,
     pub goal: u32,
@@ -21,7 +23,7 @@ pub struct Measure {
 }
 
 // A break as the rules read it: where a line to it ends, and its best.
-#[derive(Drop)]
+#[derive(Clone, Copy)]
 pub struct Break {
     pub end: u32,
     pub best: u64,

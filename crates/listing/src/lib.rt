@@ -14,7 +14,7 @@ use job::{Job, read};
 use refusal::{refused, told_job};
 
 // The listing's bytes stand at the front of the buffer, so many of them; or the buffer is too short for so many and unchanged.
-#[derive(Drop)]
+#[derive(Clone, Copy)]
 pub enum Listed {
     Written(usize),
     Short(usize),

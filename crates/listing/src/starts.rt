@@ -11,7 +11,7 @@ use rows::numbered;
 use strips::{long, wide};
 
 // A line's length, and what it costs.
-#[derive(Drop)]
+#[derive(Clone, Copy)]
 struct LineRow {
     length: u64,
     cost: u64,

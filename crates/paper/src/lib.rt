@@ -3,7 +3,7 @@
 // The limits of a paragraph: lmin, lopt, lmax, A, the space (W-202), and the edition of the last-line rule with its least last length
 // (W-205).
 #[repr(C)]
-#[derive(Drop)]
+#[derive(Clone, Copy)]
 pub struct Limits {
     pub lmin: u32,
     pub lopt: u32,
@@ -16,14 +16,14 @@ pub struct Limits {
 
 // The limits of an index.
 #[repr(C)]
-#[derive(Drop)]
+#[derive(Clone, Copy)]
 pub struct PageLimits {
     pub lmin: u32,
     pub lmax: u32,
 }
 
 // "Kinds: 1 Add, 2 Pass, 3 Drop, 4 Pop, 5 Step, 6 Jump, 7 Link."
-#[derive(Drop)]
+#[derive(Clone, Copy)]
 pub enum Kind {
     Add,
     Pass,
@@ -35,14 +35,14 @@ pub enum Kind {
 }
 
 // "A move is a kind with the index it touches."
-#[derive(Drop)]
+#[derive(Clone, Copy)]
 pub struct Move {
     pub kind: Kind,
     pub index: u32,
 }
 
 // What a caller is told when nothing is set, but for NONE, which has moves to tell.
-#[derive(Drop)]
+#[derive(Clone, Copy)]
 pub enum Refusal {
     Empty,
     Many,
@@ -53,14 +53,14 @@ pub enum Refusal {
 }
 
 // What a setter's checks of its input find.
-#[derive(Drop)]
+#[derive(Clone, Copy)]
 pub enum Checked {
     Accept,
     Refuse(Refusal),
 }
 
 // The answer of a setter.
-#[derive(Drop)]
+#[derive(Clone, Copy)]
 pub enum Answer {
     Set {
         total: u64,
@@ -74,7 +74,7 @@ pub enum Answer {
 }
 
 // The answer to one who asks for the penalty of one line alone.
-#[derive(Drop)]
+#[derive(Clone, Copy)]
 pub enum Penalty {
     Of(u64),
     Outside,

@@ -12,7 +12,7 @@ use paper::{Kind, Limits, Move};
 use strips::{NONE, Reached, put};
 
 // Where the queue stands in its strip, the next candidate, the moves taken so far, and what the front costs: NONE with an empty queue.
-#[derive(Drop)]
+#[derive(Clone, Copy)]
 pub struct Queue {
     pub front: usize,
     pub end: usize,
@@ -22,7 +22,7 @@ pub struct Queue {
 }
 
 // What rule 2 leaves: the place behind the rear, the next candidate, and the moves so far.
-#[derive(Drop)]
+#[derive(Clone, Copy)]
 struct Rear {
     at: usize,
     candidate: usize,
@@ -30,7 +30,7 @@ struct Rear {
 }
 
 // What rule 3 leaves: the place of the front, what it costs, and the moves so far.
-#[derive(Drop)]
+#[derive(Clone, Copy)]
 struct Front {
     at: usize,
     cost: u64,

@@ -3,7 +3,7 @@ ghost use Rattle.std.specs.Prelude.{◌+◌, ◌≤◌, ◌<◌, length};
 ghost use Rattle.records.specs.Place.{RecordIn};
 
 // Where a record's job begins, and where the next record begins.
-#[derive(Drop)]
+#[derive(Clone, Copy)]
 pub struct Record {
     pub from: usize,
     pub end: usize,

@@ -1,4 +1,6 @@
 // The ranges of the numbers allowed, refusals 1 to 5 in their order, and the number and place that each refusal tells.
+#![tactic(auto)]
+
 ghost use Rattle.std.specs.Prelude.{◌≡◌, ◌≤◌, eqb, length};
 ghost use Rattle.paper.specs.Allowed.{length_holds, last_holds, limits_hold, page_limits_hold};
 ghost use Rattle.paper.specs.Told.{told_refusal, first_failing, first_short, checked};
@@ -166,7 +168,7 @@ pub fn check(hold: bool, space: u32, lengths: &[u32], has: &[usize], needs: &[us
 }
 
 // 01's number and place.
-#[derive(Drop)]
+#[derive(Clone, Copy)]
 pub struct Reason {
     pub number: u32,
     pub place: usize,

@@ -1,5 +1,7 @@
 // The rows of a listing, put into a lent buffer from a place on. Past the buffer's end nothing is written, so that on an empty buffer
 // a listing is only counted. Workshop parts: they ask that the place after their bytes is a number.
+#![tactic(auto)]
+
 ghost use Rattle.std.specs.Prelude.{◌≡◌, [], ◌∷◌, ◌<◌};
 ghost use Rattle.rows.specs.Rows.{digit, digits, row_rest, row};
 ghost use Rattle.rows.specs.Puts.{Fits, Puts};

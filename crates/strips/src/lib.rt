@@ -1,4 +1,6 @@
 // What the setters write to every strip alike: the sums, a move, zeros. Workshop parts: they ask what their callers meet.
+#![tactic(auto)]
+
 ghost use Rattle.std.specs.Prelude.{◌≡◌, ◌≤◌, length, set, replicate};
 ghost use Rattle.laws.specs.Strip.{over};
 ghost use Rattle.paper.specs.Moves.{kind_number, code};
@@ -55,7 +57,7 @@ fn kind_number(k: Kind) -> u32
 }
 
 // The place in the queue, or the index, that a rule came to, and the moves of the start so far.
-#[derive(Drop)]
+#[derive(Clone, Copy)]
 pub struct Reached {
     pub at: usize,
     pub moves: usize,

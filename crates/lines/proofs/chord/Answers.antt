@@ -1,0 +1,4 @@
+use Rattle.lines.proofs.chord.Goals as goal
+
+pub returns : goal.returns
+returns c = cc

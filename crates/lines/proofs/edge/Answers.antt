@@ -1,0 +1,4 @@
+use Rattle.lines.proofs.edge.Goals as goal
+
+pub returns : goal.returns
+returns c = cc
