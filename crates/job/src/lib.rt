@@ -1,4 +1,6 @@
 // The reader of a job file: document 01, "Job file and listing".
+#![tactic(auto)]
+
 ghost use Rattle.std.specs.Prelude.{◌≡◌, ◌+◌, ◌≤◌, ◌<◌, length};
 ghost use Rattle.job.specs.Reader.{number, lengths_from, lengths_after, announced, asked_by, limits_from, reading_outcome, read_outcome};
 ghost use Rattle.job.specs.Section.{SectionIs};

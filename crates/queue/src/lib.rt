@@ -1,5 +1,7 @@
 // The queue rules of document 01, a start at a time. The queue stands in its strip from `front` up to `end`, and the start has taken
 // `count` moves. Workshop parts: they ask what their callers meet.
+#![tactic(auto)]
+
 ghost use Rattle.std.specs.Prelude.{length, ◌≤◌, ◌<◌};
 ghost use Rattle.laws.specs.Part.{part};
 ghost use Rattle.lines.specs.Asks.{Indexed, Through};
