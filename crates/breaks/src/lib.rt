@@ -1,4 +1,6 @@
 // The paragraph, on input that nothing refuses. Workshop parts: they ask what their callers meet.
+#![tactic(auto)]
+
 ghost use Rattle.paper.specs.Strips.{paragraph_strips};
 ghost use Rattle.std.specs.Prelude.{◌≡◌};
 ghost use Rattle.paper_theory.specs.Ranges.{Ranges};

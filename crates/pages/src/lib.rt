@@ -1,4 +1,6 @@
 // The index engine of document 01: one pass over the starts. Workshop parts: they ask what their callers meet.
+#![tactic(auto)]
+
 ghost use Rattle.paper.specs.Strips.{index_strips};
 ghost use Rattle.strips.specs.Words.{words_of};
 ghost use Rattle.pointer.specs.Asks.{pointer_strips};

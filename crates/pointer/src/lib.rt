@@ -1,5 +1,7 @@
 // The pointer rules of document 01, a start at a time, which has taken `count` moves. Gap(i, r) is sums[r - 1] - sums[i], so a rule
 // compares sums[r - 1] with what start i allows. Workshop parts: they ask what their callers meet.
+#![tactic(auto)]
+
 ghost use Rattle.std.specs.Prelude.{◌≡◌, length};
 ghost use Rattle.paper.specs.Index.{item};
 ghost use Rattle.paper.specs.PointerRules.{steps as is_steps, jumps as is_jumps, pointed, chooser};
