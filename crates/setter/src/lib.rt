@@ -1,4 +1,6 @@
 // The breaker and paging crate: what callers use. No function here asks anything of its caller.
+#![tactic(auto)]
+
 mod index;
 mod paragraph;
 
