@@ -1,5 +1,7 @@
 // The engine for callers in C and Rust. An enum cannot cross, so an answer is told as 01's numbers in a struct. A slice is a pointer
 // and then a length.
+#![tactic(auto)]
+
 ghost use Rattle.std.specs.Prelude.{◌≡◌};
 ghost use Rattle.paper.specs.Strips.{paragraph_strips, paragraph_outcome, index_strips, index_outcome};
 ghost use Rattle.paper.specs.Told.{told, told_refusal, told_total, told_penalty, penalty_alone};

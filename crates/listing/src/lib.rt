@@ -1,5 +1,7 @@
 // The listing of a job as bytes in a lent buffer: document 01, "Job file and listing". No function that is exported asks anything of its
 // caller.
+#![tactic(auto)]
+
 mod answer;
 mod heading;
 mod refusal;
