@@ -20,7 +20,7 @@ list_set-requires c =
 pub returns-in-Set : goal.returns-in-Set
 returns-in-Set c =
     let set = rw c.in-Set.is at c.requires in
-    rw set.listing c.List-set_of_Decides.ensures
+    rw set.listing c.list_set.ensures
 
 pub returns-in-None : goal.returns-in-None
 returns-in-None c =

@@ -1,6 +1,7 @@
-use Rattle.std.proofs.Common.{inl, inr, ⊎_elim}
+use Rattle.std.proofs.Common.{inl, inr}
 use Rattle.listing.proofs.Measuring.{line_span, free_is, paid_inside, paid_is}
 use Rattle.listing.proofs.starts.measured.Goals as goal
+use Rattle.listing.proofs.starts.measured.Goals.{else-j-lengths-via-then-j-lengths+else-x-l, else-j-lengths-via-else-j-lengths}
 
 pub line_length-x-requires : goal.line_length-x-requires
 line_length-x-requires c = line_span c.requires
@@ -11,9 +12,15 @@ returns-then-x-l c = free_is c.requires c.line_length-x.ensures c.long.ensures c
 pub penalty-requires : goal.penalty-requires
 penalty-requires c =
     paid_inside c.requires c.line_length-x.ensures c.long-2.ensures
-    (⊎_elim (λ w. inl w.2.left) (λ w. inr w.left) c.if-j-lengths.branch)
+    (elim c.else-j-lengths.branch [
+      | else-j-lengths-via-then-j-lengths+else-x-l w ↦ inl w.if-x-l.false-raw
+      | else-j-lengths-via-else-j-lengths w ↦ inr w.if-j-lengths.false
+    ])
 
 pub returns : goal.returns
 returns c =
     paid_is c.requires c.line_length-x.ensures c.long-2.ensures
-    (⊎_elim (λ w. inl w.2.left) (λ w. inr w.left) c.if-j-lengths.branch) c.penalty.ensures
+    (elim c.else-j-lengths.branch [
+      | else-j-lengths-via-then-j-lengths+else-x-l w ↦ inl w.if-x-l.false-raw
+      | else-j-lengths-via-else-j-lengths w ↦ inr w.if-j-lengths.false
+    ]) c.penalty.ensures
