@@ -1,4 +1,6 @@
 // The listing on standard output: what the programs share between the read and the end.
+#![tactic(auto)]
+
 use listing::{Listed, list};
 use records::record_at;
 

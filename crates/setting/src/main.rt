@@ -1,5 +1,7 @@
 // Reads a job on standard input and prints its listing: document 01, "Job file and listing". All of the input is read. What is beyond the
 // buffer is left out: a job of more than 16,412 bytes is decided by any longer front (listing/specs/Given.antt, `listing_first`).
+#![tactic(auto)]
+
 use printer::print_listing;
 
 // Reads once, and answers whether something came.

@@ -1,5 +1,7 @@
 // Sets each job of a file of records and prints the entries of every strip, some past the used part too, and what was told.
 // tests/make_vectors.py says how. A record has an edition and a least last length, which no job carries, before its job.
+#![tactic(auto)]
+
 mod index;
 mod paragraph;
 mod print;
