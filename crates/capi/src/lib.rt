@@ -1,5 +1,5 @@
-// The engine for callers in C and Rust. An enum cannot cross, so an answer is told as 01's numbers in a struct. A slice is a pointer
-// and then a length.
+// The engine for callers in C and Rust. An enum cannot cross, so an answer is told as 01's numbers in a struct. The crate capi_c exports
+// these functions to C.
 #![tactic(auto)]
 
 ghost use Rattle.std.specs.Prelude.{◌≡◌};
@@ -159,8 +159,7 @@ fn tell_read(limits: JobLimits, n: usize) -> JobNumbers
     }
 }
 
-#[unsafe(no_mangle)]
-pub extern "C" fn hathurmo_set_paragraph(
+pub fn hathurmo_set_paragraph(
     limits: Limits,
     lengths: &[u32],
     sums: &mut [u32],
@@ -179,8 +178,7 @@ pub extern "C" fn hathurmo_set_paragraph(
     tell(set_paragraph(limits, lengths, sums, best, next, queue, moves, breaks))
 }
 
-#[unsafe(no_mangle)]
-pub extern "C" fn hathurmo_set_index(
+pub fn hathurmo_set_index(
     limits: PageLimits,
     lengths: &[u32],
     sums: &mut [u32],
@@ -202,15 +200,13 @@ pub extern "C" fn hathurmo_set_index(
     ))
 }
 
-#[unsafe(no_mangle)]
-pub extern "C" fn hathurmo_penalty(limits: Limits, length: u32) -> Numbers
+pub fn hathurmo_penalty(limits: Limits, length: u32) -> Numbers
     ensures { result ≡ in_numbers (told_penalty (penalty_alone limits length)) }
 {
     tell_penalty(penalty_alone(limits, length))
 }
 
-#[unsafe(no_mangle)]
-pub extern "C" fn hathurmo_read_job(job: &[u8], lengths: &mut [u32]) -> JobNumbers
+pub fn hathurmo_read_job(job: &[u8], lengths: &mut [u32]) -> JobNumbers
     ensures { JobNumbersPromise (read_outcome job.now lengths.old) result lengths.new }
 {
     tell_job(read(job, lengths))

@@ -39,5 +39,5 @@ returns c =
     elim c.loop-at-test.branch [
       | else-loop-at-test w ↦ long_none c.requires c.loop-at.invariant w.loop-at-test.false
       | then-loop-at-test+then-end_of-far w ↦
-        long_stop c.requires c.loop-at.invariant w.loop-at-test.true w.end_of.ensures w.if-end_of-far.true
+          long_stop c.requires c.loop-at.invariant w.loop-at-test.true w.end_of.ensures w.if-end_of-far.true
     ]
