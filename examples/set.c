@@ -1,6 +1,6 @@
 /* Sets P1 of the compositor's table from C and prints its lines.
  *
- *   rt staticlib capi
+ *   tests/archive
  *   cc -I include examples/set.c target/staticlib/libcapi.a -o set && ./set
  *
  * It prints 01's listing of P1 without the heads: first word, length and penalty of each line, then the total. */

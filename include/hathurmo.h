@@ -1,6 +1,6 @@
 /* Hathurmo: paragraph breaking at least penalty and paging at least key total, in linear time, over memory that the caller lends.
  *
- * The library is target/staticlib/libcapi.a (`rt staticlib capi`). It allocates nothing, keeps nothing between calls and takes any
+ * The library is target/staticlib/libcapi.a (`tests/archive`). It allocates nothing, keeps nothing between calls and takes any
  * number of calls at once, as long as no two lend the same memory. Within one call no strip may overlap another, nor the input.
  *
  * A strip is a pointer with its count of entries. Every strip may be longer than asked for; entries past the part used never

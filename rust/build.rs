@@ -15,7 +15,7 @@ fn main() {
     let archive = archive();
     println!("cargo:rerun-if-changed={}", archive.display());
     let path = archive.canonicalize().unwrap_or_else(|error| {
-        panic!("{}: {error}; build it by `rt staticlib capi`, or name another archive in HATHURMO_LIB", archive.display())
+        panic!("{}: {error}; build it by `tests/archive`, or name another archive in HATHURMO_LIB", archive.display())
     });
     let name = path.file_name().and_then(|name| name.to_str()).unwrap_or_default();
     let name = name.strip_prefix("lib").and_then(|name| name.strip_suffix(".a"));

@@ -1,6 +1,6 @@
 /* The library's functions as the Arm C interface has them, over its code compiled for Arm.
  *
- * `rt staticlib` writes code for x86-64, where a struct of up to 16 bytes is passed in whole registers, a larger one as a copy among the
+ * `rt lib` writes code for x86-64, where a struct of up to 16 bytes is passed in whole registers, a larger one as a copy among the
  * arguments on the stack, and a large result through a first pointer. The same code compiled for Arm keeps that form, under names that
  * begin with raw_; here each function gets its C form back.
  *
