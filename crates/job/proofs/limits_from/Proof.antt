@@ -4,7 +4,7 @@ use native.Mathlib.Omega.{arith}
 use borrow.Author.Rules.{rules}
 use borrow.Author.Tests.{not-true, not-false}
 use Rattle.laws.specs.Strip.{lent_is}
-use Rattle.job.specs.Bounds.{announced_most}
+use Rattle.job.proofs.Bounds.{announced_most}
 use Rattle.job.proofs.Answers.{refused, limits_unknown, limits_cut, limits_whole}
 use Rattle.job.proofs.limits_from.Statement.{statement}
 use Rattle.job.proofs.limits_from.Tie as tie

@@ -3,7 +3,7 @@ use mathlib.Core.Path.{sym, ◌∙◌}
 use borrow.Author.Rules.{rules}
 use lib.Seq.{length-take-le}
 use Rattle.job.specs.Promise.{told_job}
-use Rattle.job.specs.Bounds.{read_within}
+use Rattle.job.proofs.Bounds.{read_within}
 use Rattle.listing.proofs.Answers.{told_row, unread_listed, read_listed}
 use Rattle.listing.proofs.list.Statement.{statement}
 use Rattle.listing.proofs.list.Tie as tie
