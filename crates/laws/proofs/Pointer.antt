@@ -11,6 +11,7 @@ use Rattle.laws.specs.Table.{best, best_steps}
 use Rattle.laws.specs.Chosen.{Next}
 use Rattle.laws.specs.Pointer.{Order, Cheaper, ahead_total, cheaper, IsLeft, IsRight, Linking, Gaps, PointerPlaced, TakenFirst}
 
+-- ---- the order in which indices are taken
 ahead_refl : (tie : Tie) (k : ℕ) → Ahead tie k k
 ahead_refl smallest k = omega arith
 ahead_refl largest k = omega arith
@@ -28,6 +29,7 @@ larger tie b j k e = record { low = ⊎_elim (λ h. absurd (never h)) (λ h. h) 
     never : ¬ (b j ≼ b k)
     never h = subst T e (≼→leq (b j) (b k) h)
 
+-- ---- entries
 -- The first index has no left entry.
 pub left_first : {o : Order} {k : ℕ} → 1 ≤ k → IsLeft o k k 0
 left_first h = record {
@@ -37,6 +39,7 @@ left_first h = record {
   rest = λ j p q r. absurd (omega arith);
 }
 
+-- ---- linking
 module _ {o : Order} {e i : ℕ} where
   pub linking_first : {L : ℕ → ℕ} → i < e → ((j : ℕ) → i < j → j ≤ e → IsLeft o (suc i) j (L j)) → Linking o e i (suc i) L
   linking_first h lefts = record {
@@ -129,6 +132,7 @@ module _ {o : Order} {e i : ℕ} where
       pub linked_left : (j : ℕ) → i < j → j ≤ e → IsLeft o i j (L j)
       linked_left j p q = ⊎_elim (λ h. past j h q) (λ h. at.done j p h) (split k j)
 
+-- ---- the pointer
 module _ {o : Order} {a : Gaps} where
   pub placed_first : {i : ℕ} → PointerPlaced o a i a.end
   placed_first = record { each = λ j p q g. absurd (omega arith) }
