@@ -21,9 +21,11 @@ use Rattle.paper_theory.specs.Bound.{paragraph_bound}
 use Rattle.paper_theory.specs.Cheapest.{best_last}
 use Rattle.paper_theory.specs.Ranges.{Ranges, ranges}
 use Rattle.paper_theory.specs.Scale.{up_to_bound, line_is, length_scale, length_none}
-use Rattle.queue_theory.specs.Agree.{Agrees, at_start_same, taken_same}
-use Rattle.queue_theory.specs.Paragraph.{scaled, size, start_takes}
-use Rattle.queue_theory.specs.Ready.{Measured, stood_before, stood_after}
+use Rattle.queue_theory.specs.Agree.{Agrees}
+use Rattle.queue_theory.proofs.Agree.{at_start_same, taken_same}
+use Rattle.queue_theory.proofs.Paragraph.{scaled, size, start_takes}
+use Rattle.queue_theory.specs.Ready.{Measured}
+use Rattle.queue_theory.proofs.Ready.{stood_before, stood_after}
 use Rattle.strips.specs.Costs.{cost_of, entry_back}
 use Rattle.strips.specs.Words.{words_of, Holds, holds_length, holds_entry}
 use Rattle.lines.specs.Held.{span, text_in}

@@ -16,8 +16,8 @@ use Rattle.paper.specs.Paragraph.{chosen_next, least_last, lines}
 use Rattle.paper.specs.QueueRules.{Text, Standing, text_of, drop_long, drop_worse, settled, at_start, after_starts}
 use Rattle.paper.specs.Strips.{best_entry}
 use Rattle.paper_theory.specs.Ranges.{Ranges, ranges}
-use Rattle.queue_theory.specs.Paragraph.{below_last, short_last}
-use Rattle.queue_theory.specs.Turns.{candidates_stop}
+use Rattle.queue_theory.proofs.Paragraph.{below_last, short_last}
+use Rattle.queue_theory.proofs.Turns.{candidates_stop}
 use Rattle.strips.specs.Filling.{Entered, entered_first, entered_more}
 use Rattle.strips.specs.Words.{words_of, Holds, holds_length, holds_rising}
 use Rattle.breaks.specs.declared.Chosen.{Chosen}

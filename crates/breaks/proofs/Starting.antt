@@ -14,9 +14,9 @@ use Rattle.paper.specs.Paragraph.{chosen_next}
 use Rattle.paper.specs.Moves.{Taken, code, joined}
 use Rattle.paper.specs.QueueRules.{Text, Standing, text_of, at_start, after_starts, queue_at}
 use Rattle.paper.specs.Strips.{best_entry}
-use Rattle.queue_theory.specs.Count.{after_starts_count}
-use Rattle.queue_theory.specs.Paragraph.{scaled, size}
-use Rattle.queue_theory.specs.Ready.{moves_so_far}
+use Rattle.queue_theory.proofs.Count.{after_starts_count}
+use Rattle.queue_theory.proofs.Paragraph.{scaled, size}
+use Rattle.queue_theory.proofs.Ready.{moves_so_far}
 use Rattle.strips.specs.Filling.{Entered, entered_more}
 use Rattle.strips.specs.Running.{Ran, ran_lent, map_append, length_codes}
 use Rattle.strips.specs.Words.{words_of, Holds, holds_length, holds_rising}

@@ -1,2 +1,5 @@
 pub mod Sections
 pub mod Answers
+pub mod Bounds
+pub mod First
+pub mod Jobs

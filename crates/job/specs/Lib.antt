@@ -3,5 +3,4 @@ pub mod Reader
 pub mod Promise
 pub mod Section
 pub mod Bounds
-pub mod First
 pub mod Jobs

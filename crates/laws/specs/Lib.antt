@@ -1,4 +1,5 @@
--- The laws, each file above those before it. None assumes anything.
+-- What the laws speak of, with the laws that stand below it, each file above those before it. None assumes anything. The laws of
+-- "bridged", of the queue and of the pointer stand in proofs/.
 pub mod Number
 pub mod Cost
 pub mod Search

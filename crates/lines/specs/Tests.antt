@@ -4,7 +4,7 @@ use Rattle.std.proofs.Common.{arith}
 use borrow.Author.Tests.{lt-ltb, le-ltb}
 use Rattle.std.proofs.Math.ListN.{get_or}
 use Rattle.laws.specs.Square.{sqd, sqd_line}
-use Rattle.laws.specs.Bridge.{edge_side}
+use Rattle.laws.proofs.Bridge.{edge_side}
 use Rattle.paper.specs.declared.Limits.{Limits}
 use Rattle.paper.specs.Paragraph.{penalty}
 use Rattle.paper.specs.QueueRules.{F, edge, chord, bridged}

@@ -35,8 +35,8 @@ use Rattle.job.specs.Promise.{accepted_writes}
 use Rattle.listing.specs.Listing.{refused, refusal, holds, space_in, least, starts, move_count}
 use Rattle.listing.specs.Listing.{cost_listing, checked_listing, asked_listing, reading_listing, listing_of}
 use Rattle.listing.specs.Asks.{IsSet, Answered}
-use Rattle.listing.specs.Settings.{set_is}
-use Rattle.listing.specs.Size.{set_size}
+use Rattle.listing.proofs.Settings.{set_is}
+use Rattle.listing.proofs.Size.{set_size}
 
 -- what stands at the front of a strip that was written
 front_is : (xs s t : List ℕ) (k : ℕ) → t ≡ over xs s → length xs ≡ k → take k t ≡ xs

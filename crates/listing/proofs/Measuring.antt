@@ -19,7 +19,7 @@ use Rattle.lines.specs.Held.{span}
 use Rattle.lines.specs.Asks.{Span}
 use Rattle.listing.specs.Listing.{holds, space_in}
 use Rattle.listing.specs.Asks.{LineAsks, LineIs}
-use Rattle.listing.specs.Settings.{line_low, line_high}
+use Rattle.listing.proofs.Settings.{line_low, line_high}
 
 not_both : (b c : Bool) → (b ≡ false) ⊎ (c ≡ false) → (b && c) ≡ false
 not_both true c h = ⊎_elim (λ e. let z : ◌≡◌ {A = ℕ} 0 1 = cc in absurd (omega arith)) (λ e. e) h

@@ -11,7 +11,7 @@ use Rattle.rows.specs.Puts.{Fits, Puts, puts_counted, puts_over}
 use Rattle.listing.specs.declared.Listed.TheVariants.{Written, Short}
 use Rattle.listing.specs.Listing.{refused}
 use Rattle.listing.specs.Promise.{bytes_outcome}
-use Rattle.listing.specs.Size.{refused_size}
+use Rattle.listing.proofs.Size.{refused_size}
 
 module _ {bytes : List ℕ} {size : ℕ} {t : List ℕ} (s : List ℕ) (counted : Puts bytes 0 [] size t) where
   back : t ++ s ≡ s

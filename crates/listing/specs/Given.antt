@@ -16,7 +16,7 @@ use Rattle.job.specs.declared.Asked.{Asked}
 use Rattle.job.specs.declared.JobLimits.{JobLimits}
 use Rattle.job.specs.Reader.{refuse, accept, reading}
 use Rattle.job.specs.Bounds.{longest}
-use Rattle.job.specs.First.{reading_first}
+use Rattle.job.proofs.First.{reading_first}
 use Rattle.listing.specs.declared.Listed.{Listed}
 use Rattle.listing.specs.declared.Listed.TheVariants.{Written, Short}
 use Rattle.listing.specs.Listing.{refused, refusal, holds, space_in, least, starts, move_count, set_rows}

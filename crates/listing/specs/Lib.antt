@@ -5,4 +5,3 @@ pub mod Asks
 pub mod Given
 pub mod Settings
 pub mod Size
-pub mod Worked

@@ -15,7 +15,7 @@ use Rattle.paper.specs.Index as Index
 use Rattle.paper.specs.Index.{index}
 use Rattle.paper.specs.Strips.{best_entry, IndexStrips, index_strips, index_written, index_set}
 use Rattle.paper_theory.specs.Cheapest.{chosen_index}
-use Rattle.pointer_theory.specs.Numbers.{best_none}
+use Rattle.pointer_theory.proofs.Numbers.{best_none}
 use Rattle.strips.specs.Asks.{FollowAsk, Followed}
 use Rattle.strips.specs.Chain.{next_in, chain, LeadsOn, leads_rises, leads_on, chain_later, chosen_leads}
 use Rattle.strips.specs.Filling.{length_ended, entry_read}

@@ -12,9 +12,10 @@ use Rattle.paper.specs.Index as Index
 use Rattle.paper.specs.Moves.{Taken, joined}
 use Rattle.paper.specs.PointerRules.{pages_of, Pointing, at_start, after_starts, pointer_moves}
 use Rattle.paper.specs.Strips.{entries}
-use Rattle.pointer_theory.specs.Ready.{PointerReady, ready_at}
-use Rattle.pointer_theory.specs.Entries.{left_is, right_is}
-use Rattle.pointer_theory.specs.Count.{starts_count}
+use Rattle.pointer_theory.specs.Ready.{PointerReady}
+use Rattle.pointer_theory.proofs.Ready.{ready_at}
+use Rattle.pointer_theory.proofs.Entries.{left_is, right_is}
+use Rattle.pointer_theory.proofs.Count.{starts_count}
 use Rattle.strips.specs.declared.Reached.{Reached}
 use Rattle.strips.specs.Filling.{Entered, entered_first, entered_more, entered_all, entered_whole}
 use Rattle.strips.specs.Running.{Ran, ran_length, ran_lent, joined_room, joined_ran}

@@ -24,7 +24,8 @@ unfolding over sum Table.best next length_holds first_failing first_short checke
 strips_compute = tt
 
 unfoldable pub paragraph_computes : Unit {0}
-unfolding strips_compute line line_length penalty least_last lines paragraph admissible charge settings free sqd Lines.best Lines.chosen_next Lines.breaks
+unfolding strips_compute line line_length penalty least_last lines paragraph admissible charge settings free sqd
+    Lines.best Lines.chosen_next Lines.breaks
     Paragraph.best Paragraph.chosen_next Paragraph.breaks last_holds limits_hold
     QueueRules.text_of QueueRules.F QueueRules.edge QueueRules.chord QueueRules.drop_long QueueRules.pop_worse QueueRules.pop_bridged
     QueueRules.add QueueRules.consider QueueRules.candidates QueueRules.drop_worse QueueRules.settled QueueRules.at_start

@@ -11,4 +11,3 @@ pub mod PointerRules
 pub mod Strips
 pub mod Computes
 pub mod Marked
-pub mod Edges

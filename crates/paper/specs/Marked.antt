@@ -1,6 +1,6 @@
 -- 01, "The compositor's table": the thirteen marked rows as data, what each says of the definitions, and what is computed for it; and the
--- rows of W-202 and W-205. Assumes nothing.
-use Rattle.std.specs.Prelude.{ℕ, ◌≡◌, refl, List, [], ◌∷◌, map}
+-- rows of W-202 and W-205.
+use Rattle.std.specs.Prelude.{ℕ, ◌≡◌, List, [], ◌∷◌, map}
 use Rattle.laws.specs.Cost.{Cost, none, some}
 use Rattle.laws.specs.Search.{Tie, largest}
 use Rattle.laws.specs.Setting.{Problem, Best}
@@ -12,7 +12,6 @@ use Rattle.paper.specs.Lines.{tie}
 use Rattle.paper.specs.Paragraph as Paragraph
 use Rattle.paper.specs.Paragraph.{lines, paragraph}
 use Rattle.paper.specs.Index as Index
-use Rattle.paper.specs.Computes.{paragraph_computes, index_computes}
 use Rattle.paper.specs.Index.{index}
 
 -- ---- the rows
@@ -122,15 +121,3 @@ computed (pages_row l) ws = outcome_of (Index.best l ws 0) (Index.boundaries l w
 -- What is computed for the rows is what the table says.
 abbrev pub Computed : List Row → Type 0
 Computed rows = map (λ (r : Row). computed r.asked r.lengths) rows ≡ map (λ (r : Row). r.outcome) rows
-
-pub rows_computed : Computed table
-unfolding computed paragraph_computes index_computes
-rows_computed = refl
-
-pub space_rows_computed : Computed space_table
-unfolding computed paragraph_computes
-space_rows_computed = refl
-
-pub last_rows_computed : Computed last_table
-unfolding computed paragraph_computes
-last_rows_computed = refl

@@ -10,8 +10,9 @@ use Rattle.paper.specs.Paragraph as Paragraph
 use Rattle.paper.specs.Paragraph.{paragraph}
 use Rattle.paper.specs.Index as Index
 use Rattle.paper.specs.Index.{index}
-use Rattle.paper.specs.Marked.{RowLimits, lines_row, pages_row, found, Row, table, space_table, last_table, Given, RowHolds, EachRow, outcome_of}
-use Rattle.paper.specs.Marked.{computed, Computed, rows_computed, space_rows_computed, last_rows_computed}
+use Rattle.paper.specs.Marked.{RowLimits, lines_row, pages_row, found, Row, table, space_table, last_table, Given}
+use Rattle.paper.specs.Marked.{RowHolds, EachRow, outcome_of, computed, Computed}
+use Rattle.paper.proofs.Marked.{rows_computed, space_rows_computed, last_rows_computed}
 use Rattle.paper_theory.specs.Cheapest.{best_paragraph, paragraph_cheapest, best_index, index_cheapest}
 
 -- there is a word, and lopt is at most lmax

@@ -65,7 +65,8 @@ module _ (space : ℕ) where
       let a = (both (length_holds space w) (all (length_holds space) ws) t).0 in
       let b = both (ltb space w) (leb w 4095) a in
       (ltb→lt space w b.0, leb→le w 4095 b.1)
-  length_holds_lem (w ∷ ws) t (suc k) h = length_holds_lem ws (both (length_holds space w) (all (length_holds space) ws) t).1 k (omega arith)
+  length_holds_lem (w ∷ ws) t (suc k) h =
+      length_holds_lem ws (both (length_holds space w) (all (length_holds space) ws) t).1 k (omega arith)
 
   module _ (ws : List ℕ) (allowed : T (all (length_holds space) ws)) where
     -- by more than the space where there is a word

@@ -11,9 +11,9 @@ use Rattle.paper.specs.declared.PageLimits.{PageLimits}
 use Rattle.paper.specs.declared.Kind.TheVariants.{Link}
 use Rattle.paper.specs.Moves.{Taken, code, move, moved, still}
 use Rattle.paper.specs.PointerRules.{pages_of, entry_at, Linked, links, linked}
-use Rattle.pointer_theory.specs.Numbers.{best_larger, best_not_larger}
-use Rattle.pointer_theory.specs.Ready.{links_end}
-use Rattle.pointer_theory.specs.Turns.{links_early, links_enough, links_more, links_stop}
+use Rattle.pointer_theory.proofs.Numbers.{best_larger, best_not_larger}
+use Rattle.pointer_theory.proofs.Ready.{links_end}
+use Rattle.pointer_theory.proofs.Turns.{links_early, links_enough, links_more, links_stop}
 use Rattle.strips.specs.declared.Reached.{Reached}
 use Rattle.strips.specs.Running.{Running, running_first, running_same, running_more, running_place, running_done, running_length}
 use Rattle.pointer.specs.Held.{best_at, PageBests, bests_size, bests_at}

@@ -10,8 +10,8 @@ use Rattle.paper.specs.declared.Kind.TheVariants.{Step, Jump}
 use Rattle.paper.specs.Index.{gap}
 use Rattle.paper.specs.Moves.{Taken, code, move, moved, still}
 use Rattle.paper.specs.PointerRules.{pages_of, entry_at, steps, jumps}
-use Rattle.pointer_theory.specs.Turns.{steps_more, steps_stop, jumps_more, jumps_stop}
-use Rattle.pointer_theory.specs.Ready.{step_above}
+use Rattle.pointer_theory.proofs.Turns.{steps_more, steps_stop, jumps_more, jumps_stop}
+use Rattle.pointer_theory.proofs.Ready.{step_above}
 use Rattle.strips.specs.Running.{Running, Ran, running_first, running_same, running_more, running_place, running_done, running_length}
 use Rattle.strips.specs.Words.{words_of}
 use Rattle.pointer.specs.Asks.{pages_in, PageTo, StepsAsk, JumpsAsk}

@@ -6,8 +6,8 @@ use native.Mathlib.Omega.{arith}
 use lib.ListN.{length}
 use Rattle.paper.specs.declared.PageLimits.{PageLimits}
 use Rattle.paper.specs.PointerRules.{pages_of, steps, pointed}
-use Rattle.pointer_theory.specs.Turns.{steps_by}
-use Rattle.pointer_theory.specs.Ready.{step_above}
+use Rattle.pointer_theory.proofs.Turns.{steps_by}
+use Rattle.pointer_theory.proofs.Ready.{step_above}
 use Rattle.strips.specs.Running.{Ran, joined_first, joined_room, joined_ran}
 use Rattle.pointer.specs.Asks.{pages_in, StepsAsk, JumpsAsk}
 use Rattle.pointer.proofs.Lowers.{stepping, jumping}

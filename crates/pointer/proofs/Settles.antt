@@ -17,8 +17,8 @@ use Rattle.paper.specs.Index.{gap, item}
 use Rattle.paper.specs.PointerRules.{chooser}
 use Rattle.paper.specs.Strips.{best_entry}
 use Rattle.paper_theory.specs.Bound.{index_bound}
-use Rattle.pointer_theory.specs.Choice.{chooser_is, chooser_none}
-use Rattle.pointer_theory.specs.Numbers.{best_none}
+use Rattle.pointer_theory.proofs.Choice.{chooser_is, chooser_none}
+use Rattle.pointer_theory.proofs.Numbers.{best_none}
 use Rattle.strips.specs.Words.{words_of, sums_size}
 use Rattle.pointer.specs.Held.{best_at}
 use Rattle.pointer.specs.Asks.{pages_in, PageTo, ChoiceAsk, PointerSettleAsk, PointerSettled}

@@ -8,8 +8,11 @@ use lib.Seq.{get_or-set_same}
 use Rattle.paper.specs.declared.PageLimits.{PageLimits}
 use Rattle.paper.specs.Moves.{Taken}
 use Rattle.paper.specs.PointerRules.{pages_of, links, Pointing, pointed, linked, at_start}
-use Rattle.pointer_theory.specs.Ready.{Pointed, ready_falls, ready_rises, ready_pointed}
-use Rattle.pointer_theory.specs.Choice.{Choosing, ready_choosing}
+use Rattle.pointer_theory.specs.Ready.{Pointed}
+use Rattle.pointer_theory.proofs.Falls.{ready_falls}
+use Rattle.pointer_theory.proofs.Ready.{ready_rises, ready_pointed}
+use Rattle.pointer_theory.specs.Choice.{Choosing}
+use Rattle.pointer_theory.proofs.Choice.{ready_choosing}
 use Rattle.strips.specs.Running.{Ran, joined_first, joined_room, joined_ran}
 use Rattle.strips.specs.Words.{words_of, sums_size}
 use Rattle.pointer.specs.Held.{best_at, PageBests, bests_size, bests_at, bests_more}

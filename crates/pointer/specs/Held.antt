@@ -6,7 +6,7 @@ use Rattle.paper.specs.declared.PageLimits.{PageLimits}
 use Rattle.paper.specs.Allowed.{IndexPassed}
 use Rattle.paper.specs.Index as Index
 use Rattle.paper.specs.Strips.{best_entry}
-use Rattle.pointer_theory.specs.Ready.{best_last}
+use Rattle.pointer_theory.proofs.Ready.{best_last}
 use Rattle.strips.specs.Filling.{Entered, entered_more}
 
 -- the entry of index k

@@ -1,8 +1,3 @@
--- The pointer rules are right: what stands before each start, that the pointer is the chosen next, that the entries are what 01
--- says, and the count of moves. None assumes anything but what each law states.
-pub mod Turns
+-- What the theorems on 01's pointer rules speak of: what stands before each start, and what is chosen there. The theorems stand in proofs/.
 pub mod Ready
 pub mod Choice
-pub mod Entries
-pub mod Count
-pub mod Numbers

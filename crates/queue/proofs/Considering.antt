@@ -10,7 +10,7 @@ use Rattle.laws.specs.Part.{Part, listed}
 use Rattle.paper.specs.declared.Kind.TheVariants.{Pass}
 use Rattle.paper.specs.Moves.{move, moved, still}
 use Rattle.paper.specs.QueueRules.{consider}
-use Rattle.queue_theory.specs.Turns.{consider_long, consider_none, consider_add}
+use Rattle.queue_theory.proofs.Turns.{consider_long, consider_none, consider_add}
 use Rattle.lines.specs.declared.Break.{Break}
 use Rattle.lines.specs.Held.{text_in}
 use Rattle.lines.specs.Asks.{costliest}

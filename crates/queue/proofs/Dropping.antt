@@ -11,7 +11,7 @@ use Rattle.paper.specs.declared.Kind.TheVariants.{Drop}
 use Rattle.paper.specs.Moves.{code, move}
 use Rattle.paper.specs.QueueRules.{F, drop_long, drop_worse}
 use Rattle.paper.specs.Strips.{best_entry}
-use Rattle.queue_theory.specs.Turns.{drop_long_more, drop_long_stop, drop_worse_more, drop_worse_stop}
+use Rattle.queue_theory.proofs.Turns.{drop_long_more, drop_long_stop, drop_worse_more, drop_worse_stop}
 use Rattle.lines.specs.Held.{break_in, cost_at}
 use Rattle.lines.specs.Asks.{Indexed, Through}
 use Rattle.queue.specs.Asks.{ShedAsks, LongAt, LongDropped, CostsAt, WorseDropped}

@@ -13,7 +13,7 @@ use Rattle.paper.specs.declared.Limits.{Limits}
 use Rattle.paper.specs.declared.Kind.TheVariants.{Pop}
 use Rattle.paper.specs.Moves.{code, move}
 use Rattle.paper.specs.QueueRules.{F, bridged, pop_worse, pop_bridged}
-use Rattle.queue_theory.specs.Turns.{pop_worse_more, pop_worse_stop, pop_bridged_more, pop_bridged_stop}
+use Rattle.queue_theory.proofs.Turns.{pop_worse_more, pop_worse_stop, pop_bridged_more, pop_bridged_stop}
 use Rattle.lines.specs.declared.Break.{Break}
 use Rattle.lines.specs.Held.{break_in, cost_at, bridged_at}
 use Rattle.lines.specs.Asks.{Through, Three}

@@ -10,7 +10,7 @@ use Rattle.laws.specs.Number.{split}
 use Rattle.laws.specs.Part.{Part, part, listed}
 use Rattle.paper.specs.Moves.{Taken, still, joined}
 use Rattle.paper.specs.QueueRules.{Standing, drop_long, candidates, drop_worse, settled, at_start}
-use Rattle.queue_theory.specs.Count.{candidates_count}
+use Rattle.queue_theory.proofs.Count.{candidates_count}
 use Rattle.lines.specs.Asks.{Indexed, Through}
 use Rattle.strips.specs.declared.Reached.{Reached}
 use Rattle.strips.specs.Running.{joined_ran}

@@ -12,9 +12,9 @@ use Rattle.laws.specs.Members.{Every, every_map, Falls}
 use Rattle.laws.specs.Part.{Part, part, listed}
 use Rattle.paper.specs.Moves.{Taken}
 use Rattle.paper.specs.QueueRules.{consider, candidates}
-use Rattle.queue_theory.specs.Turns.{consider_gives, candidates_more, candidates_stop}
-use Rattle.queue_theory.specs.Leaves.{add_every, add_falls}
-use Rattle.queue_theory.specs.Count.{consider_count}
+use Rattle.queue_theory.proofs.Turns.{consider_gives, candidates_more, candidates_stop}
+use Rattle.queue_theory.proofs.Leaves.{add_every, add_falls}
+use Rattle.queue_theory.proofs.Count.{consider_count}
 use Rattle.lines.specs.declared.Break.{Break}
 use Rattle.lines.specs.Held.{begins, break_in, text_in}
 use Rattle.lines.specs.Asks.{costliest, Indexed}

@@ -1,7 +1,7 @@
 use Rattle.std.proofs.Common.{refl, sym, ◌∙◌, arith}
 use borrow.Author.Tests.{not-true, not-false}
 use Rattle.laws.specs.Strip.{lent_is}
-use Rattle.job.specs.Bounds.{announced_most}
+use Rattle.job.proofs.Bounds.{announced_most}
 use Rattle.job.proofs.Answers.{refused, limits_unknown, limits_cut, limits_whole}
 use Rattle.job.proofs.limits_from.Goals as goal
 

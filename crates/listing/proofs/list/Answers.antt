@@ -1,6 +1,6 @@
 use Rattle.std.proofs.Common.{sym, ◌∙◌, length-take-le}
 use Rattle.job.specs.Promise.{told_job}
-use Rattle.job.specs.Bounds.{read_within}
+use Rattle.job.proofs.Bounds.{read_within}
 use Rattle.listing.proofs.Answers.{told_row, unread_listed, read_listed}
 use Rattle.listing.proofs.list.Goals as goal
 

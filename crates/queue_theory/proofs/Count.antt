@@ -8,10 +8,10 @@ use Rattle.std.proofs.Math.ListN.{length-append, length-reverse}
 use Rattle.laws.specs.Number.{split}
 use Rattle.paper.specs.declared.Kind.TheVariants.{Drop, Pop}
 use Rattle.paper.specs.Moves.{Taken}
-use Rattle.paper.specs.QueueRules.{Text, Standing, drop_long, pop_worse, pop_bridged, add, consider, candidates, drop_worse, settled, at_start}
-use Rattle.paper.specs.QueueRules.{after_starts}
-use Rattle.queue_theory.specs.Turns.{candidates_more, candidates_stop, consider_gives}
-use Rattle.queue_theory.specs.Leaves.{leaves_length, drop_long_leaves, pop_worse_leaves, pop_bridged_leaves, drop_worse_leaves}
+use Rattle.paper.specs.QueueRules.{Text, Standing, drop_long, pop_worse, pop_bridged, add, consider, candidates, drop_worse, settled}
+use Rattle.paper.specs.QueueRules.{at_start, after_starts}
+use Rattle.queue_theory.proofs.Turns.{candidates_more, candidates_stop, consider_gives}
+use Rattle.queue_theory.proofs.Leaves.{leaves_length, drop_long_leaves, pop_worse_leaves, pop_bridged_leaves, drop_worse_leaves}
 
 module _ (t : Text) where
   -- ---- rule by rule: the moves, with who stands, against who stood

@@ -1,4 +1,4 @@
--- The moves of an index are at most 2n: a Step or a Jump lowers the pointer, and a Link gives a left entry to an index that had none.
+-- What the moves of an index are paid from: a Step or a Jump lowers the pointer, and a Link gives a left entry to an index that had none.
 -- Assumes nothing but what each law states.
 use Prim.Native.Nat.{ℕ, zero, suc, ◌+◌, ◌-◌, ◌*◌, ◌≤◌, ◌<◌}
 use Rattle.std.specs.Prelude.{◌≡◌, refl, length, set, replicate}
@@ -6,15 +6,17 @@ use Rattle.std.proofs.Common.{ap, ◌∙◌, length-set}
 use mathlib.Core.List.{List, [], ◌∷◌}
 use native.Mathlib.Omega.{arith}
 use Rattle.std.proofs.Math.ListN.{length-append}
-use Rattle.laws.specs.Pointer.{Linking, linking_first, unlinked as no_entry}
+use Rattle.laws.specs.Pointer.{Linking}
+use Rattle.laws.proofs.Pointer.{linking_first, unlinked as no_entry}
 use Rattle.paper.specs.declared.PageLimits.{PageLimits}
 use Rattle.paper.specs.PointerRules.{Pages, pages_of, entry_at, steps, jumps, links, Pointing, pointed, linked, at_start, after_starts}
-use Rattle.paper.specs.PointerRules.{pointer_moves}
-use Rattle.pointer_theory.specs.Turns.{steps_by, jumps_by, links_by}
-use Rattle.pointer_theory.specs.Ready.{taken, EntriesReady, PointerReady, rises, links_end, link_on, ready_falls, ready}
+use Rattle.pointer_theory.proofs.Turns.{steps_by, jumps_by, links_by}
+use Rattle.pointer_theory.specs.Ready.{taken, EntriesReady, PointerReady}
+use Rattle.pointer_theory.proofs.Ready.{rises, links_end, link_on, ready}
+use Rattle.pointer_theory.proofs.Falls.{ready_falls}
 
 -- ---- the indices that have no left entry
-unfoldable unlinked : List ℕ → ℕ
+unfoldable pub unlinked : List ℕ → ℕ
 unlinked [] = 0
 unlinked (zero ∷ left) = suc (unlinked left)
 unlinked (suc m ∷ left) = unlinked left
@@ -74,7 +76,7 @@ links_count l ws i {left} {right} e pos low =
 
 -- ---- each start
 -- What the moves are paid from: the pointer, and the indices that have no left entry.
-unfoldable potential : Pointing → ℕ
+unfoldable pub potential : Pointing → ℕ
 potential s = s.pointer + unlinked s.left
 
 module _ (l : PageLimits) (ws : List ℕ) where
@@ -85,7 +87,7 @@ module _ (l : PageLimits) (ws : List ℕ) where
   n = length ws
 
   -- three are never spent: the pointer stays above 0, and 0 and 1 are not linked
-  potential_low : {i : ℕ} {s : Pointing} → PointerReady l ws i s → 3 ≤ potential s
+  pub potential_low : {i : ℕ} {s : Pointing} → PointerReady l ws i s → 3 ≤ potential s
   unfolding potential
   potential_low {i} {s} ready =
       let e = ready.entries in
@@ -126,19 +128,10 @@ module _ (l : PageLimits) (ws : List ℕ) where
       omega (arith, length-append a.moves b.moves, pointed_count ready, linked_count i a.stands low ready.entries)
 
   -- ---- all starts
-  starts_paid : (d : ℕ) → length (after_starts p n d).moves + potential (after_starts p n d).stands ≤ 2 * n + 3
+  pub starts_paid : (d : ℕ) → length (after_starts p n d).moves + potential (after_starts p n d).stands ≤ 2 * n + 3
   unfolding after_starts potential
   starts_paid zero = omega (arith, unlinked_all (n + 2))
   starts_paid (suc d) =
       let a = after_starts p n d in
       let b = at_start p n (n - d) a.stands in
       omega (arith, length-append a.moves b.moves, starts_paid d, start_count (n - d) (omega arith) (ready l ws d))
-
-  -- the moves of the first d starts
-  pub starts_count : (d : ℕ) → length (after_starts p n d).moves ≤ 2 * n
-  starts_count d = omega (arith, starts_paid d, potential_low (ready l ws d))
-
-  -- Demand 3: at most 2n moves.
-  pub pointer_count : length (pointer_moves l ws) ≤ 2 * n
-  unfolding pointer_moves
-  pointer_count = starts_count (n + 1)

@@ -4,26 +4,23 @@ use Rattle.std.specs.Prelude.{ℕ, ◌+◌, ◌-◌, ◌*◌, ◌≤◌, ◌<◌
 use Rattle.std.proofs.Math.Path.{refl}
 use Rattle.std.proofs.Common.{ap, arith}
 use Rattle.laws.specs.Cost.{Cost, none, some, before}
-use Rattle.laws.specs.Members.{Every, every_map}
-use Rattle.laws.specs.Number.{is_true}
+use Rattle.laws.specs.Members.{Every}
 use Rattle.paper.specs.declared.Limits.{Limits}
-use Rattle.paper.specs.declared.Penalty.TheVariants.{Of}
-use Rattle.paper.specs.Allowed.{limits_hold, ParagraphPassed}
+use Rattle.paper.specs.Allowed.{ParagraphPassed}
 use Rattle.paper.specs.Lines as Lines
 use Rattle.paper.specs.Lines.{Inside}
 use Rattle.paper.specs.Paragraph.{line, line_length, end, penalty, least_last, lines, best, chosen_next}
 use Rattle.paper.specs.QueueRules.{text_of, front_next, taken_best, taken_next, queue_at, queue_moves, after_starts}
 use Rattle.paper.specs.Applied.{applied}
-use Rattle.paper.specs.Told.{penalty_alone}
-use Rattle.paper_theory.specs.Alone.{alone_inside}
 use Rattle.paper_theory.specs.Formula.{by_formula, formula_best, formula_next}
 use Rattle.paper_theory.specs.Ranges.{Ranges, ranges}
 use Rattle.paper_theory.specs.Scale.{up_to, up_to_le, up_to_rise, line_scale, length_scale, length_none}
 use Rattle.queue_theory.specs.Scales.{Scaled, Bested}
-use Rattle.queue_theory.specs.Ready.{moves_so_far, stood_before}
-use Rattle.queue_theory.specs.Applied.{start_inside}
-use Rattle.queue_theory.specs.Agree.{formula_same}
-use Rattle.queue_theory.specs.Front as Front
+use Rattle.queue_theory.proofs.Ready.{moves_so_far, stood_before}
+use Rattle.queue_theory.proofs.Applied.{start_inside}
+use Rattle.queue_theory.proofs.Agree.{formula_same}
+use Rattle.queue_theory.proofs.Front as Front
+use Rattle.queue_theory.proofs.Short as Short
 
 nothing_joined : (c : Cost) → c ≡ before ◌+◌ 0 c
 nothing_joined none = refl
@@ -74,12 +71,6 @@ module _ (l : Limits) (ws : List ℕ) (passed : ParagraphPassed l ws) where
         start_inside scaled start (after_starts (text_of l ws) (length ws) (length ws - i)).stands
         (stood_before scaled (length ws) size i early)
 
-    -- "The breaker never meets "outside" where the queue rules apply the formula": asked for alone, each is given its number.
-    pub never_outside : Every (λ (x : ℕ). penalty_alone l x ≡ Of (penalty l x)) (applied l ws i)
-    never_outside =
-        every_map (Inside l.lmin l.lmax) (λ (x : ℕ). penalty_alone l x ≡ Of (penalty l x))
-        (λ x h. alone_inside l x (is_true (limits_hold l) passed.limits) h.0 h.1) (applied l ws i) inside_the_measure
-
   -- Any formula that agrees inside the measure gives the same bests and nexts, since an admissible line is inside it or costs nothing; and
   -- so, by the above, the same moves and queues.
   module _ (formula : ℕ → ℕ) (same : (x : ℕ) → Inside l.lmin l.lmax x → formula x ≡ penalty l x) where
@@ -115,7 +106,7 @@ module _ (l : Limits) (ws : List ℕ) (passed : ParagraphPassed l ws) where
     pub below_last : line_length l ws i (end ws) < least_last l → (best l ws i ≡ none) × (chosen_next l ws i ≡ 0)
     unfolding text_of lines best chosen_next
     below_last short = (
-      Front.short_none scaled bested (length ws) size i start inside short,
+      Short.short_none scaled bested (length ws) size i start inside short,
       Front.short_next scaled bested (length ws) size i start inside short,
     )
 

@@ -1,48 +1,37 @@
 -- Demand 3: at every start the front of the queue is the chosen next wherever it is the chooser, and an empty queue means that
 -- the start has no setting. Assumes nothing but what each theorem states.
 use Prim.Native.Nat.{ℕ, ◌+◌, ◌≤◌, ◌<◌}
-use Rattle.std.specs.Prelude.{◌≡◌, ◌↔◌, ◌≢◌, Bool, ◌&&◌, ltb}
+use Rattle.std.specs.Prelude.{◌≡◌, ◌↔◌, ◌≢◌, Bool, ltb}
 use Rattle.std.proofs.Math.Path.{refl, sym}
-use Rattle.std.proofs.Common.{ap, subst, ◌∙◌, ⊎_elim, leb→le}
+use Rattle.std.proofs.Common.{ap, subst, ◌∙◌, ⊎_elim}
 use Rattle.std.proofs.Math.Bool.{true, false, and-false}
 use mathlib.Core.List.{List, [], ◌∷◌}
 use native.Mathlib.Omega.{arith}
-use Rattle.std.proofs.Math.Dec.{T, leb, eqb}
-use borrow.Author.Tests.{eqb-true, eq-eqb, lt-leb, le-leb, leb-true, leb-false, ltb-true, ltb-false}
-use Rattle.laws.specs.Number.{if, both}
+use Rattle.std.proofs.Math.Dec.{T, leb}
+use borrow.Author.Tests.{lt-leb, le-leb, leb-true, leb-false, ltb-true, ltb-false}
+use Rattle.laws.specs.Number.{if}
 use Rattle.laws.specs.Cost.{Cost, none, some, Has, value, has_some, some_not_none, before}
 use Rattle.laws.specs.Search.{smallest}
-use Rattle.laws.specs.Setting.{Choice, Admissible, through}
+use Rattle.laws.specs.Setting.{Choice, through}
 use Rattle.laws.specs.Chosen.{Next, next, next_is, next_unique}
 use Rattle.laws.specs.Members.{Every, every_map}
-use Rattle.laws.specs.Queue.{Beats, front_least, empty_none}
-use Rattle.laws.specs.Pointer.{Cheaper, cheaper_next, no_next}
+use Rattle.laws.specs.Queue.{Beats}
+use Rattle.laws.proofs.Queue.{front_least, empty_none}
+use Rattle.laws.specs.Pointer.{Cheaper}
+use Rattle.laws.proofs.Pointer.{cheaper_next, no_next}
 use Rattle.paper.specs.Lines as Lines
-use Rattle.paper.specs.Lines.{Lines, admissible, charge, settings, free}
+use Rattle.paper.specs.Lines.{Lines, settings, free}
 use Rattle.paper.specs.QueueRules.{Text, F, front_best, front_next, taken_best, taken_next, Standing, queue_at}
-use Rattle.paper_theory.specs.Cheapest.{free_best, chosen_none, lines_none}
-use Rattle.queue_theory.specs.Scales.{Scaled, Bested, line_before, line_shorter}
-use Rattle.queue_theory.specs.Ready.{Measured, stood_after}
-use Rattle.queue_theory.specs.Curves.{Settable, G, F_is}
-use Rattle.queue_theory.specs.Sound.{sound_after}
-
--- ---- the two bounds of an admissible line
-module _ (p : Lines) (i j : ℕ) where
-  bounds : (b : Bool) →
-      T (if b (leb p.lastmin (p.line i j) && leb (p.line i j) p.lmax)
-      (leb p.lmin (p.line i j) && leb (p.line i j) p.lmax)) →
-      (if b p.lastmin p.lmin ≤ p.line i j) × (p.line i j ≤ p.lmax)
-  bounds true t =
-      let h = both (leb p.lastmin (p.line i j)) (leb (p.line i j) p.lmax) t in
-      (leb→le p.lastmin (p.line i j) h.0, leb→le (p.line i j) p.lmax h.1)
-  bounds false t =
-      let h = both (leb p.lmin (p.line i j)) (leb (p.line i j) p.lmax) t in
-      (leb→le p.lmin (p.line i j) h.0, leb→le (p.line i j) p.lmax h.1)
-
-  measure : (b : Bool) → if b p.lastmin p.lmin ≤ p.line i j → p.line i j ≤ p.lmax →
-      T (if b (leb p.lastmin (p.line i j) && leb (p.line i j) p.lmax) (leb p.lmin (p.line i j) && leb (p.line i j) p.lmax))
-  measure true low high = rw (le-leb p.lastmin (p.line i j) low, le-leb (p.line i j) p.lmax high) tt
-  measure false low high = rw (le-leb p.lmin (p.line i j) low, le-leb (p.line i j) p.lmax high) tt
+use Rattle.paper_theory.specs.Cheapest.{free_best, chosen_none}
+use Rattle.queue_theory.specs.Scales.{Scaled, Bested}
+use Rattle.queue_theory.proofs.Scales.{line_before}
+use Rattle.queue_theory.specs.Ready.{Measured}
+use Rattle.queue_theory.proofs.Ready.{stood_after}
+use Rattle.queue_theory.specs.Curves.{Settable, G}
+use Rattle.queue_theory.proofs.Curves.{F_is}
+use Rattle.queue_theory.proofs.Sound.{sound_after}
+use Rattle.queue_theory.proofs.Long.{choice_measure, measure_choice, charge_is}
+use Rattle.queue_theory.proofs.Short.{short_none}
 
 -- ---- two costs joined to a third
 joins : (a b : ℕ) (c : Cost) → before ◌+◌ (a + b) c ≡ before ◌+◌ a (before ◌+◌ b c)
@@ -70,50 +59,12 @@ module _ (f : ℕ → Cost) (h j : ℕ) {x : ℕ} (e : f h ≡ some x) where
 
 -- ---- the lines from a start whose last line is longer than lopt
 module _ {t : Text} (b : Bested t) (i : ℕ) (long : t.lines.lopt < t.lines.line i t.lines.end) where
-  -- the last line is bounded and charged as every other
-  least_length : (j : ℕ) (e : Bool) → eqb j t.lines.end ≡ e → if e t.lines.lastmin t.lines.lmin ≤ t.lines.line i j →
-      t.lines.lmin ≤ t.lines.line i j
-  least_length j true e h = let f : j ≡ t.lines.end = eqb-true j t.lines.end e in rw f (omega (arith, b.lopt_low))
-  least_length j false e h = h
-
-  choice_measure : (j : ℕ) → Choice (settings t.lines) i j →
-      (t.lines.lmin ≤ t.lines.line i j) × (t.lines.line i j ≤ t.lines.lmax)
-  unfolding settings admissible
-  choice_measure j ch =
-      let h = bounds t.lines i j (eqb j t.lines.end) ch.admissible in
-      (least_length j (eqb j t.lines.end) refl h.0, h.1)
-
-  measure_choice : (j : ℕ) → Measured t i j → Choice (settings t.lines) i j
-  unfolding settings admissible
-  measure_choice j v = record {
-    rises = v.above;
-    within = v.within;
-    admissible = measure t.lines i j (eqb j t.lines.end) (least (eqb j t.lines.end) refl) v.high;
-  }
-    where
-      least : (e : Bool) → eqb j t.lines.end ≡ e → if e t.lines.lastmin t.lines.lmin ≤ t.lines.line i j
-      least true e = let f : j ≡ t.lines.end = eqb-true j t.lines.end e in rw f (omega (arith, b.last_low))
-      least false e = v.low
-
-  charge_is : (j : ℕ) → charge t.lines i j ≡ t.lines.penalty (t.lines.line i j) + t.lines.break j
-  unfolding charge
-  charge_is j = go (eqb j t.lines.end) refl
-    where
-      whole : ℕ
-      whole = t.lines.penalty (t.lines.line i j) + t.lines.break j
-
-      go : (e : Bool) → eqb j t.lines.end ≡ e → if (e && leb (t.lines.line i j) t.lines.lopt) 0 whole ≡ whole
-      go true e =
-          let f : j ≡ t.lines.end = eqb-true j t.lines.end e in
-          rw (f, lt-leb (t.lines.line i t.lines.end) t.lines.lopt long)
-      go false e = refl
-
   -- the line to j with the rest: the best that the rules read has the break's charge in it
   through_is : (j : ℕ) → Choice (settings t.lines) i j → 1 ≤ i →
       through (settings t.lines) (Lines.best t.lines) i j ≡ before ◌+◌ (t.lines.penalty (t.lines.line i j)) (t.best j)
   unfolding settings
   through_is j ch start =
-      rw (charge_is j, b.joined j (omega (arith, ch.rises)) ch.within)
+      rw (charge_is b i long j, b.joined j (omega (arith, ch.rises)) ch.within)
       (joins (t.lines.penalty (t.lines.line i j)) (t.lines.break j) (Lines.best t.lines j))
 
 -- ---- every start
@@ -232,20 +183,6 @@ module _ {t : Text} (s : Scaled t) (b : Bested t) (n : ℕ) (size : t.lines.end 
         go [] f e = f
         go (h ∷ q) f e = absurd (some_not_none (sym (front_best_lem h q f) ∙ e))
 
-  -- W-205: "a start whose remaining words, as one line, are shorter than lastmin has no setting": lines to the end only grow as their start
-  -- goes back, so the last line of a setting is no longer than the rest
-  last_length : (k : ℕ) (js : List ℕ) → 1 ≤ k → Admissible (settings p) k js → p.lastmin ≤ p.line k p.end
-  unfolding settings admissible
-  last_length k [] from h =
-      (bounds p k p.end true (subst (λ (e : Bool). T (if e (leb p.lastmin (p.line k p.end) && leb (p.line k p.end) p.lmax)
-      (leb p.lmin (p.line k p.end) && leb (p.line k p.end) p.lmax))) (eq-eqb p.end p.end refl) h.admissible)).0
-  last_length k (j ∷ js) from h =
-      omega (
-        arith,
-        last_length j js (omega (arith, h.0.rises)) h.1,
-        line_shorter s k j p.end from (omega (arith, h.0.rises)) h.0.within (omega arith),
-      )
-
   -- from the least last length to lopt the start takes n+1 at no cost
   pub free_takes : p.lastmin ≤ p.line i p.end → p.line i p.end ≤ p.lopt →
       (Lines.best p i ≡ some 0) × (Lines.chosen_next p i ≡ p.end)
@@ -255,11 +192,8 @@ module _ {t : Text} (s : Scaled t) (b : Bested t) (n : ℕ) (size : t.lines.end 
       (free_best p b.lopt_high i early e, rw e)
 
   module _ (short : p.line i p.end < p.lastmin) where
-    pub short_none : Lines.best p i ≡ none
-    short_none = (lines_none p i early).1 (λ js h. omega (arith, last_length i js start h))
-
     pub short_next : Lines.chosen_next p i ≡ 0
-    short_next = chosen_none p b.lopt_high i early short_none
+    short_next = chosen_none p b.lopt_high i early (short_none s b n size i start inside short)
 
   -- Demand 3: what a start takes by the queue rules is its best and its chosen next.
   pub start_takes : (q : List ℕ) → stands.queue ≡ q → (taken_best t i q ≡ Lines.best p i) × (taken_next t i q ≡ Lines.chosen_next p i)
@@ -271,7 +205,7 @@ module _ {t : Text} (s : Scaled t) (b : Bested t) (n : ℕ) (size : t.lines.end 
 
       go : (c : Bool) → ltb rest p.lastmin ≡ c → (d : Bool) → leb rest p.lopt ≡ d →
           (if c none (if d (some 0) (front_best t i q)) ≡ Lines.best p i) × (if c 0 (if d p.end (front_next q)) ≡ Lines.chosen_next p i)
-      go true c d g = let short = ltb-true rest p.lastmin c in (sym (short_none short), sym (short_next short))
+      go true c d g = let short = ltb-true rest p.lastmin c in (sym (short_none s b n size i start inside short), sym (short_next short))
       go false c true g =
           let taken = free_takes (ltb-false rest p.lastmin c) (leb-true rest p.lopt g) in
           (sym taken.0, sym taken.1)

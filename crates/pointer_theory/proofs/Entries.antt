@@ -7,13 +7,14 @@ use Rattle.std.proofs.lemmas.List.{get_or_at}
 use Rattle.laws.specs.Number.{split}
 use Rattle.laws.specs.Cost.{leq}
 use Rattle.laws.specs.Search.{smallest, largest, pick_is, picked_unique}
-use Rattle.laws.specs.Pointer.{left_picked, right_picked}
+use Rattle.laws.proofs.Pointer.{left_picked, right_picked}
 use Rattle.paper.specs.declared.PageLimits.{PageLimits}
 use Rattle.paper.specs.Index as Index
 use Rattle.paper.specs.Strips.{entries, left_entry, right_entry}
 use Rattle.paper.specs.PointerRules.{pages_of, entry_at, after_starts}
 use Rattle.paper_theory.specs.Entries.{length_entries, get_or_entries}
-use Rattle.pointer_theory.specs.Ready.{EntriesReady, PointerReady, ready_at}
+use Rattle.pointer_theory.specs.Ready.{EntriesReady, PointerReady}
+use Rattle.pointer_theory.proofs.Ready.{ready_at}
 
 -- ---- what stands where start 0 is ready
 module _ (l : PageLimits) (ws : List ℕ) {left right : List ℕ} (ready : EntriesReady l ws 0 left right) where

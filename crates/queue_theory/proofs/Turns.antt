@@ -106,7 +106,8 @@ module _ (t : Text) (i : ℕ) where
   candidates_stop (suc c) q h = rw (lt-leb t.lines.lmin (t.lines.line i (suc c)) h, candidates)
 
   -- ---- rule 3
-  pub drop_worse_more : (j k : ℕ) (q : List ℕ) → F t i k ≤ F t i j → drop_worse t i (j ∷ k ∷ q) ≡ moved (move Drop j) (drop_worse t i (k ∷ q))
+  pub drop_worse_more : (j k : ℕ) (q : List ℕ) → F t i k ≤ F t i j →
+      drop_worse t i (j ∷ k ∷ q) ≡ moved (move Drop j) (drop_worse t i (k ∷ q))
   unfolding drop_worse
   drop_worse_more j k q h = rw (le-leb (F t i k) (F t i j) h, drop_worse)
 

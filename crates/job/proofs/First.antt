@@ -14,7 +14,8 @@ use Rattle.job.specs.declared.JobLimits.{JobLimits}
 use Rattle.job.specs.Reader.{Reading, refuse, section, counted, to_end, lengths_from, lengths_after}
 use Rattle.job.specs.Reader.{announced, limits_by, limits_from, reading}
 use Rattle.job.specs.Section.{first_numbers, section_whole}
-use Rattle.job.specs.Bounds.{most_limits, longest, announced_most}
+use Rattle.job.specs.Bounds.{most_limits, longest}
+use Rattle.job.proofs.Bounds.{announced_most}
 
 if_same : {A : Type 0} (b : Bool) (x y z : A) → (b ≡ true → x ≡ y) → if b x z ≡ if b y z
 if_same true x y z e = e refl
