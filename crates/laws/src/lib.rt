@@ -1,1 +1,2 @@
-// Theory alone: the laws that the engines' proofs cite stand in specs/.
+// Theory alone: the laws that the engines' proofs cite stand in specs/ and proofs/.
+#![tactic(auto)]

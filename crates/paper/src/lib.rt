@@ -1,4 +1,5 @@
 // The types of document 01, with what 02's requests add. What they mean stands in specs/, in 01's order.
+#![tactic(auto)]
 
 // The limits of a paragraph: lmin, lopt, lmax, A, the space (W-202), and the edition of the last-line rule with its least last length
 // (W-205).

@@ -1,4 +1,6 @@
 // A file of jobs for the vectors: records one after the other, each a size of 2 bytes, low byte first, and a job of so many bytes.
+#![tactic(auto)]
+
 ghost use Rattle.std.specs.Prelude.{◌+◌, ◌≤◌, ◌<◌, length};
 ghost use Rattle.records.specs.Place.{RecordIn};
 
