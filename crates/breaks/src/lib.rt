@@ -163,7 +163,7 @@ fn starts(
     let last = sums[sums.len() - 1];
     let first = measure_from(l, l.space);
     let mut i = last_starts(l, sums, best, next);
-    while 0 < i {
+    'going_back: while 0 < i {
         let count = q.moves;
         let p = moved(first, sums[i - 1]);
         let at = at_start(l, i, p, sums, best, queue, q, &mut moves[count..]);

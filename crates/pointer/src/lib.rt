@@ -60,7 +60,7 @@ fn jumps(
     let from = sums[i];
     let mut at = r;
     let mut taken = count;
-    loop {
+    'jumping: loop {
         let entry = left[at];
         let to = wide(entry);
         if to == 0 {

@@ -15,86 +15,86 @@ measure_from-first-requires c = first_begins c.requires (omega arith)
 pub last_starts-i-requires : goal.last_starts-i-requires
 last_starts-i-requires c = record { holds = c.requires.holds; best = c.requires.best; next = c.requires.next }
 
-pub loop-i-init : goal.loop-i-init
-loop-i-init c = begun_started c.last_starts-i.ensures _ _ c.requires.queue
+pub going_back-init : goal.going_back-init
+going_back-init c = begun_started c.last_starts-i.ensures _ _ c.requires.queue
 
 pub overflow_sub-i : goal.overflow_sub-i
-overflow_sub-i c = omega (arith, c.loop-i-test.true)
+overflow_sub-i c = omega (arith, c.going_back-test.true)
 
 pub offset_bounds-sums-i : goal.offset_bounds-sums-i
-offset_bounds-sums-i c = omega (arith, c.loop-i-test.true, c.loop-i.invariant.low, c.requires.queue, many c.requires, c.well_formed)
+offset_bounds-sums-i c = omega (arith, c.going_back-test.true, c.going_back.invariant.low, c.requires.queue, many c.requires, c.well_formed)
 
 pub bounds-sums-i : goal.bounds-sums-i
-bounds-sums-i c = omega (arith, c.loop-i-test.true, c.loop-i.invariant.low, c.requires.queue, many c.requires)
+bounds-sums-i c = omega (arith, c.going_back-test.true, c.going_back.invariant.low, c.requires.queue, many c.requires)
 
 pub moved-p-requires : goal.moved-p-requires
 moved-p-requires c =
-    started_moving c.loop-i.invariant (roomy c.requires) c.loop-i-test.true (c.measure_from-first.ensures.0, omega (arith, c.measure_from-first.ensures.1))
+    started_moving c.going_back.invariant (roomy c.requires) c.going_back-test.true (c.measure_from-first.ensures.0, omega (arith, c.measure_from-first.ensures.1))
 
 pub offset_bounds-moves-count : goal.offset_bounds-moves-count
-offset_bounds-moves-count c = omega (arith, started_room c.loop-i.invariant (roomy c.requires), c.well_formed)
+offset_bounds-moves-count c = omega (arith, started_room c.going_back.invariant (roomy c.requires), c.well_formed)
 
 pub slice_bounds-at_start-count : goal.slice_bounds-at_start-count
 slice_bounds-at_start-count c =
     let room = roomy c.requires in
-    omega (arith, started_room c.loop-i.invariant room, started_length c.loop-i.invariant room)
+    omega (arith, started_room c.going_back.invariant room, started_length c.going_back.invariant room)
 
 pub slice_bounds-at_start-start : goal.slice_bounds-at_start-start
 slice_bounds-at_start-start c =
     let room = roomy c.requires in
-    omega (arith, started_room c.loop-i.invariant room, started_length c.loop-i.invariant room)
+    omega (arith, started_room c.going_back.invariant room, started_length c.going_back.invariant room)
 
 pub at_start-at-requires : goal.at_start-at-requires
 at_start-at-requires c =
-    started_asks c.loop-i.invariant (roomy c.requires) c.loop-i-test.true c.measure_from-first.ensures _
+    started_asks c.going_back.invariant (roomy c.requires) c.going_back-test.true c.measure_from-first.ensures _
     c.moved-p.ensures
 
-pub overflow_sub-i-in-loop-i : goal.overflow_sub-i-in-loop-i
-overflow_sub-i-in-loop-i c = omega (arith, c.loop-i-test.true)
+pub overflow_sub-i-in-going_back : goal.overflow_sub-i-in-going_back
+overflow_sub-i-in-going_back c = omega (arith, c.going_back-test.true)
 
-pub offset_bounds-sums-i-in-loop-i : goal.offset_bounds-sums-i-in-loop-i
-offset_bounds-sums-i-in-loop-i c =
-    omega (arith, c.loop-i-test.true, c.loop-i.invariant.low, c.requires.queue, many c.requires, c.well_formed)
+pub offset_bounds-sums-i-in-going_back : goal.offset_bounds-sums-i-in-going_back
+offset_bounds-sums-i-in-going_back c =
+    omega (arith, c.going_back-test.true, c.going_back.invariant.low, c.requires.queue, many c.requires, c.well_formed)
 
-pub bounds-sums-i-in-loop-i : goal.bounds-sums-i-in-loop-i
-bounds-sums-i-in-loop-i c = omega (arith, c.loop-i-test.true, c.loop-i.invariant.low, c.requires.queue, many c.requires)
+pub bounds-sums-i-in-going_back : goal.bounds-sums-i-in-going_back
+bounds-sums-i-in-going_back c = omega (arith, c.going_back-test.true, c.going_back.invariant.low, c.requires.queue, many c.requires)
 
 pub settle-requires : goal.settle-requires
 settle-requires c =
-    started_settle c.loop-i.invariant (roomy c.requires) c.loop-i-test.true c.measure_from-first.ensures _
+    started_settle c.going_back.invariant (roomy c.requires) c.going_back-test.true c.measure_from-first.ensures _
     c.moved-p.ensures _ _ _ c.at_start-at.ensures
 
 pub overflow_add-q : goal.overflow_add-q
 overflow_add-q c =
     omega (
       arith,
-      started_fits c.loop-i.invariant (roomy c.requires) c.loop-i-test.true c.measure_from-first.ensures _
+      started_fits c.going_back.invariant (roomy c.requires) c.going_back-test.true c.measure_from-first.ensures _
           c.moved-p.ensures _ _ _ c.at_start-at.ensures,
       c.well_formed,
     )
 
-pub overflow_sub-i-in-loop-i-2 : goal.overflow_sub-i-in-loop-i-2
-overflow_sub-i-in-loop-i-2 c = omega (arith, c.loop-i-test.true)
+pub overflow_sub-i-in-going_back-2 : goal.overflow_sub-i-in-going_back-2
+overflow_sub-i-in-going_back-2 c = omega (arith, c.going_back-test.true)
 
-pub loop-i-smaller : goal.loop-i-smaller
-loop-i-smaller c = omega (arith, c.loop-i-test.true)
+pub going_back-smaller : goal.going_back-smaller
+going_back-smaller c = omega (arith, c.going_back-test.true)
 
-pub loop-i-preserved : goal.loop-i-preserved
-loop-i-preserved c =
-    started_next c.loop-i.invariant (roomy c.requires) c.loop-i-test.true c.measure_from-first.ensures _
+pub going_back-preserved : goal.going_back-preserved
+going_back-preserved c =
+    started_next c.going_back.invariant (roomy c.requires) c.going_back-test.true c.measure_from-first.ensures _
     c.moved-p.ensures _ _ _ c.at_start-at.ensures _ _ c.settle.ensures
 
 pub shape_of-best : goal.shape_of-best
-shape_of-best c = omega (arith, held_bests _ _ _ _ c.loop-i.invariant.done, c.requires.best)
+shape_of-best c = omega (arith, held_bests _ _ _ _ c.going_back.invariant.done, c.requires.best)
 
 pub shape_of-next : goal.shape_of-next
-shape_of-next c = omega (arith, c.loop-i.invariant.nexts.size, c.requires.next, c.requires.queue, many c.requires)
+shape_of-next c = omega (arith, c.going_back.invariant.nexts.size, c.requires.next, c.requires.queue, many c.requires)
 
 pub shape_of-queue : goal.shape_of-queue
-shape_of-queue c = omega (arith, c.loop-i.invariant.queue_size, many c.requires)
+shape_of-queue c = omega (arith, c.going_back.invariant.queue_size, many c.requires)
 
 pub shape_of-moves : goal.shape_of-moves
-shape_of-moves c = started_length c.loop-i.invariant (roomy c.requires)
+shape_of-moves c = started_length c.going_back.invariant (roomy c.requires)
 
 pub returns : goal.returns
-returns c = let z : c.loop-i.i ≡ 0 = omega (arith, c.loop-i-test.false) in started_done (rw z at c.loop-i.invariant)
+returns c = let z : c.going_back.i ≡ 0 = omega (arith, c.going_back-test.false) in started_done (rw z at c.going_back.invariant)
