@@ -12,7 +12,6 @@ use Rattle.laws.specs.Number.{if, split}
 use Rattle.laws.specs.Cost.{none, some}
 use Rattle.laws.specs.Part.{part_front, part_none}
 use Rattle.paper.specs.declared.Limits.{Limits}
-use Rattle.paper.specs.Paragraph.{least_last}
 use Rattle.paper.specs.QueueRules.{Text, by_rest, front_best, front_next, taken_best, taken_next}
 use Rattle.paper.specs.Strips.{best_entry}
 use Rattle.paper_theory.specs.Ranges.{Ranges}

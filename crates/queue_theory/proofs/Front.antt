@@ -7,7 +7,7 @@ use Rattle.std.proofs.Common.{ap, subst, ◌∙◌, ⊎_elim}
 use Rattle.std.proofs.Math.Bool.{true, false, and-false}
 use mathlib.Core.List.{List, [], ◌∷◌}
 use native.Mathlib.Omega.{arith}
-use Rattle.std.proofs.Math.Dec.{T, leb}
+use Rattle.std.proofs.Math.Dec.{leb}
 use borrow.Author.Tests.{lt-leb, le-leb, leb-true, leb-false, ltb-true, ltb-false}
 use Rattle.laws.specs.Number.{if}
 use Rattle.laws.specs.Cost.{Cost, none, some, Has, value, has_some, some_not_none, before}

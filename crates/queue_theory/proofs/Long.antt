@@ -10,7 +10,6 @@ use Rattle.std.proofs.Math.Dec.{T, leb, eqb}
 use borrow.Author.Tests.{eqb-true, lt-leb, le-leb}
 use Rattle.laws.specs.Number.{if, both}
 use Rattle.laws.specs.Setting.{Choice}
-use Rattle.paper.specs.Lines as Lines
 use Rattle.paper.specs.Lines.{Lines, admissible, charge, settings}
 use Rattle.paper.specs.QueueRules.{Text}
 use Rattle.queue_theory.specs.Scales.{Bested}

@@ -1,6 +1,6 @@
 -- The queue rules one turn at a time: what each gives where its test holds, and where it fails. For any text. Assumes nothing.
 use Prim.Native.Nat.{ℕ, zero, suc, ◌+◌, ◌≤◌, ◌<◌}
-use Rattle.std.specs.Prelude.{◌≡◌, Bool, not, ◌||◌, List, ◌∷◌, ltb}
+use Rattle.std.specs.Prelude.{◌≡◌, Bool, ◌||◌, List, ◌∷◌, ltb}
 use Rattle.std.proofs.Math.Path.{refl, ap}
 use Rattle.std.proofs.Common.{sym, subst, ⊎_elim, arith, lt-ltb, le-ltb, le-leb}
 use Rattle.std.proofs.Math.Bool.{true, false}

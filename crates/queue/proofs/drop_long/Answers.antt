@@ -1,4 +1,4 @@
-use Rattle.std.proofs.Common.{⊎_elim, arith}
+use Rattle.std.proofs.Common.{arith}
 use Rattle.paper.specs.declared.Kind.TheVariants.{Drop}
 use Rattle.queue.proofs.Shedding.{shed_put}
 use Rattle.queue.proofs.Dropping.{long_first, long_more, long_stop, long_none}
