@@ -1,4 +1,4 @@
--- The listing of a job: what it is, what is promised of it, and worked listings.
+-- The listing of a job: what it is, what is promised of it, and the most bytes it has. Worked listings stand in proofs/.
 pub mod Listing
 pub mod Promise
 pub mod Asks
