@@ -117,8 +117,8 @@ fn shortest(l: Limits) -> u32
     }
 }
 
-// The end, and the starts whose rest is shorter than lmin. W-205: below the least last length there is no setting; the others take n+1 at no
-// cost. Answers the first start that is not one of them.
+// The end, and the starts whose rest is shorter than lmin. W-205: below the least last length there is no setting; the others take n+1 at
+// no cost. Answers the first start that is not one of them.
 fn last_starts(l: Limits, sums: &[u32], best: &mut [u64], next: &mut [u32]) -> usize
     requires { LastAsks l sums.now best.old next.old }
     ensures { Begun l sums.now best.new next.new result }

@@ -41,7 +41,8 @@ unfolding worked
 read_most = refl
 
 -- W-202: "Count 4 means space 0."
-pub four_no_space : (l : List ℕ) → length l ≡ 4 → asked_by 4 l ≡ Paragraph (limits_of (get_or l 0 0) (get_or l 1 0) (get_or l 2 0) (get_or l 3 0))
+pub four_no_space : (l : List ℕ) → length l ≡ 4 →
+    asked_by 4 l ≡ Paragraph (limits_of (get_or l 0 0) (get_or l 1 0) (get_or l 2 0) (get_or l 3 0))
 unfolding asked_by
 four_no_space l e = rw (get_or-eq_default l 0 {n = 4} (omega arith))
 
@@ -83,6 +84,7 @@ pub short_strip : read_outcome job_P1 (9 ∷ 9 ∷ 9 ∷ []) ≡ record { answer
 unfolding worked
 short_strip = refl
 
-pub short_strip_told : told_job (Refused (Room 1)) ≡ record { number = 5; place = 1; count = 0; limits = no_limits; pages = no_pages; n = 0 }
+pub short_strip_told :
+    told_job (Refused (Room 1)) ≡ record { number = 5; place = 1; count = 0; limits = no_limits; pages = no_pages; n = 0 }
 unfolding told_job told_refusal
 short_strip_told = refl

@@ -38,7 +38,8 @@ module _ {asked : Asked} {ws S : List ℕ} {i j at : ℕ} (a : SegmentAsks asked
   unfolding values
   line_row e m = rw (e, m.length, m.cost)
 
-  pub boundary_row : {l : PageLimits} → asked ≡ Index l → {x : ℕ} → x ≡ get_or ws (i - 1) 0 → start_row asked ws i j ≡ row (digits i) (x ∷ [])
+  pub boundary_row : {l : PageLimits} → asked ≡ Index l → {x : ℕ} → x ≡ get_or ws (i - 1) 0 →
+      start_row asked ws i j ≡ row (digits i) (x ∷ [])
   unfolding values item
   boundary_row e f = rw (e, f) (ap (λ (y : ℕ). row (digits i) (y ∷ [])) (own i a.segment.first))
     where

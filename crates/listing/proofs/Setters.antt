@@ -31,7 +31,8 @@ unfolding holds space_in least starts move_count paragraph_outcome paragraph_che
 paragraph_answered l ws p =
     let o = paragraph_checked l ws lent_paragraph in
     answered (AskedParagraph l) ws (λ s. s.sums) (λ s. s.breaks) lent_paragraph (paragraph_has lent_paragraph) (paragraph_needs (length ws))
-    (λ c. (o c).answer) (λ c. (o c).strips) (λ b. (paragraph_set l ws lent_paragraph b).answer) (λ r. refl) refl refl (λ v. refl) (λ v e. rw e)
+    (λ c. (o c).answer) (λ c. (o c).strips) (λ b. (paragraph_set l ws lent_paragraph b).answer) (λ r. refl) refl refl
+    (λ v. refl) (λ v e. rw e)
     (λ v e. rw e) (omega (arith, zeros 4097)) (omega (arith, zeros 4096)) (λ h. omega (arith, zeros 4097, zeros 4096, zeros 8192))
     p.tells.is p.strips
 

@@ -152,6 +152,7 @@ unfolding listing_of
 listing_size job = reading_size (reading job most_words) (reading_within job most_words)
 
 -- A buffer of so many bytes always gets the listing.
-pub always_written : (job s : List ℕ) {r : Listed} {t : List ℕ} → most_bytes ≤ length s → Promise Is (bytes_outcome (listing_of job) s) r t →
+pub always_written : (job s : List ℕ) {r : Listed} {t : List ℕ} → most_bytes ≤ length s →
+    Promise Is (bytes_outcome (listing_of job) s) r t →
     r ≡ Written (length (listing_of job))
 always_written job s room p = (with_room (listing_of job) s p (omega (arith, listing_size job))).0

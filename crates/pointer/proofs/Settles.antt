@@ -48,7 +48,8 @@ module _ {l : PageLimits} {i : ℕ} {S : List ℕ} {r b : ℕ} (a : ChoiceAsk l 
   unfolding best_entry
   choose_near has = go (Index.best l ws r) refl a.is
     where
-      go : (c : Cost) → Index.best l ws r ≡ c → b ≡ best_entry c → leb (get_or S i 0 + l.lmin) (get_or S (r - 1) 0) ≡ chooser (pages_in l S) i r
+      go : (c : Cost) → Index.best l ws r ≡ c → b ≡ best_entry c →
+          leb (get_or S i 0 + l.lmin) (get_or S (r - 1) 0) ≡ chooser (pages_in l S) i r
       go none e f = absurd (has f)
       go (some v) e f =
           rw (← page_read a.page, leb_shift (get_or S i 0) l.lmin (gap ws i r))

@@ -117,7 +117,8 @@ module _ {s : Start} {j : ℕ} {new : Break} {q : Part} {t room : ℕ} (a : AddA
                   let pops = joined_ran (pop_worse (text_at s) i j (reverse (listed q))) (pop_bridged (text_at s) j) t m₀ m₁ w.moves
                   (reverse (listed (part q.strip q.from w.at))) (worse.ran (new_at i before)) m₂ b.moves rest
                   (omega (arith, a.consider.enough)) (popped.ran bridges_at) in
-                  let all = joined_ran (joined (pop_worse (text_at s) i j (reverse (listed q))) (pop_bridged (text_at s) j)) (added j) t m₀ m₂
+                  let all =
+                  joined_ran (joined (pop_worse (text_at s) i j (reverse (listed q))) (pop_bridged (text_at s) j)) (added j) t m₀ m₂
                   b.moves rest
                   pops n (b.moves + 1) (reverse (j ∷ rest)) (omega (arith, a.consider.enough))
                   (ran_move (omega (arith, adding_fits.left)) put) in

@@ -29,7 +29,8 @@ bounds-sums-i c = omega (arith, c.going_back-test.true, c.going_back.invariant.l
 
 pub moved-p-requires : goal.moved-p-requires
 moved-p-requires c =
-    started_moving c.going_back.invariant (roomy c.requires) c.going_back-test.true (c.measure_from-first.ensures.0, omega (arith, c.measure_from-first.ensures.1))
+    let first = c.measure_from-first.ensures in
+    started_moving c.going_back.invariant (roomy c.requires) c.going_back-test.true (first.0, omega (arith, first.1))
 
 pub offset_bounds-moves-count : goal.offset_bounds-moves-count
 offset_bounds-moves-count c = omega (arith, started_room c.going_back.invariant (roomy c.requires), c.well_formed)

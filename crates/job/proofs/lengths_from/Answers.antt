@@ -13,7 +13,8 @@ returns-then-lengths-n c = refused (lengths_room _ _ _ _ _ (omega arith) (omega 
 
 pub returns-then-n-part : goal.returns-then-n-part
 returns-then-n-part c =
-    refused (lengths_left _ _ _ _ _ (omega arith) (omega arith) (omega (arith, ap length (lent_is c.args.job.now c.args.at), length-drop c.args.at c.args.job.now))) refl
+    let left = ap length (lent_is c.args.job.now c.args.at) in
+    refused (lengths_left _ _ _ _ _ (omega arith) (omega arith) (omega (arith, left, length-drop c.args.at c.args.job.now))) refl
 
 pub returns-then-complete-n : goal.returns-then-complete-n
 returns-then-complete-n c =
@@ -24,6 +25,7 @@ pub returns : goal.returns
 returns c =
     let read = rw (lent_is c.args.job.now c.args.at) at c.section-complete.ensures in
     accepted _
-    (lengths_whole _ _ _ _ _ (omega arith) (omega arith) read (omega arith) (omega (arith, ap length (lent_is c.args.job.now c.args.at), length-drop c.args.at c.args.job.now)))
+    (lengths_whole _ _ _ _ _ (omega arith) (omega arith) read (omega arith)
+    (omega (arith, ap length (lent_is c.args.job.now c.args.at), length-drop c.args.at c.args.job.now)))
     (sym (length_numbers _ _))
     (whole_written read (omega arith))

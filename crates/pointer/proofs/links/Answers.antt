@@ -28,7 +28,8 @@ overflow_add-taken c = omega (arith, join_place c.requires c.loop-k.invariant c.
 
 pub loop-k-smaller : goal.loop-k-smaller
 loop-k-smaller c =
-    omega (arith, c.loop-k.invariant.within, c.wide-k.ensures, c.requires.rises _ c.loop-k.invariant.above (join_early c.requires c.loop-k.invariant c.loop-k-test.true))
+    let early = join_early c.requires c.loop-k.invariant c.loop-k-test.true in
+    omega (arith, c.loop-k.invariant.within, c.wide-k.ensures, c.requires.rises _ c.loop-k.invariant.above early)
 
 pub loop-k-preserved : goal.loop-k-preserved
 loop-k-preserved c = join_on c.requires c.loop-k.invariant c.loop-k-test.true c.wide-k.ensures c.put.ensures

@@ -9,13 +9,17 @@ loop-k-init c = (search rules, refl)
 
 pub returns-then-not-length_holds : goal.returns-then-not-length_holds
 returns-then-not-length_holds c =
-    sym (failing_here _ _ (length_holds _) c.loop-k-test.true (sym c.length_holds.ensures ∙ not-true c.length_holds.result c.if-not-length_holds.true-raw))
+    sym
+    (failing_here _ _ (length_holds _) c.loop-k-test.true
+    (sym c.length_holds.ensures ∙ not-true c.length_holds.result c.if-not-length_holds.true-raw))
     ∙ c.loop-k.invariant.1
 
 pub loop-k-preserved : goal.loop-k-preserved
 loop-k-preserved c = (
   search rules,
-  sym (failing_later _ _ (length_holds _) c.loop-k-test.true (sym c.length_holds.ensures ∙ not-false c.length_holds.result c.if-not-length_holds.false-raw))
+  sym
+      (failing_later _ _ (length_holds _) c.loop-k-test.true
+      (sym c.length_holds.ensures ∙ not-false c.length_holds.result c.if-not-length_holds.false-raw))
       ∙ c.loop-k.invariant.1,
 )
 

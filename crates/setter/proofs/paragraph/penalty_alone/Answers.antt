@@ -13,7 +13,8 @@ returns-then-not-limits_hold c =
 
 pub returns-then-length-gt16773120 : goal.returns-then-length-gt16773120
 returns-then-length-gt16773120 c =
-    answers (sym (alone_length _ _ (sym c.limits_hold.ensures ∙ not-false c.limits_hold.result c.if-not-limits_hold.false-raw) c.if-length-gt16773120.true))
+    let holds = sym c.limits_hold.ensures ∙ not-false c.limits_hold.result c.if-not-limits_hold.false-raw in
+    answers (sym (alone_length _ _ holds c.if-length-gt16773120.true))
 
 pub returns-then-length-l : goal.returns-then-length-l
 returns-then-length-l c =
