@@ -42,6 +42,9 @@ pub fn set_paragraph(
     set(l, lengths, sums, best, next, queue, moves, breaks)
 }
 
+// 01: "one length from 0 to 16,773,120"
+const MOST_ALONE: u32 = 16773120;
+
 // The penalty of a line of one length, asked for alone: outside the measure there is none (W-204). The space is off that length already.
 pub fn penalty_alone(l: Limits, length: u32) -> Penalty
     ensures { PenaltyPromise (penalty_alone l length) result }
@@ -49,7 +52,7 @@ pub fn penalty_alone(l: Limits, length: u32) -> Penalty
     if !limits_hold(l) {
         return Penalty::Refused(Refusal::Limits);
     }
-    if 16773120 < length {
+    if MOST_ALONE < length {
         return Penalty::Refused(Refusal::Length(0));
     }
     if length < l.lmin || l.lmax < length {
