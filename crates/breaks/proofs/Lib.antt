@@ -1,7 +1,11 @@
+pub mod Holding
 pub mod Agreeing
 pub mod Taking
+pub mod Started
+pub mod Turning
 pub mod Starting
 pub mod Beginning
+pub mod Shortening
 pub mod Ends
 pub mod Filling
 pub mod Setting

@@ -5,9 +5,10 @@ use mathlib.Core.List.{List, [], ◌∷◌}
 use native.Mathlib.Omega.{arith}
 use lib.ListN.{length, get_or}
 use Rattle.laws.specs.Cost.{some, has_some}
-use Rattle.laws.specs.Strip.{over, over_nil, length_over, append_nil}
+use Rattle.laws.specs.Strip.{over, over_nil, length_over}
+use Rattle.std.proofs.lemmas.List.{append-nil}
 use Rattle.paper.specs.declared.Limits.{Limits}
-use Rattle.paper.specs.declared.Answer.TheVariants.{Set, None}
+use Rattle.paper.specs.Told.{set_answer, none_answer}
 use Rattle.paper.specs.Lines as Lines
 use Rattle.paper.specs.Lines.{settings, tie}
 use Rattle.paper.specs.Paragraph.{best, chosen_next, breaks, lines}
@@ -31,7 +32,7 @@ module _ {l : Limits} {ws : List ℕ} {s : ParagraphStrips} {S B N Q m : List �
 
   -- the first entry is the best of start 1
   first_best : get_or B 0 0 ≡ best_at l ws 1
-  first_best = entry_read (best_at l ws) 1 (n + 1) [] (bests l ws) s.best B f.best (sym (append_nil (bests l ws))) 1 0 refl
+  first_best = entry_read (best_at l ws) 1 (n + 1) [] (bests l ws) s.best B f.best (sym (append-nil (bests l ws))) 1 0 refl
       (omega arith)
 
   number : (v : ℕ) → best l ws 1 ≡ some v → v < 2 ^ 64 - 1
@@ -43,11 +44,11 @@ module _ {l : Limits} {ws : List ℕ} {s : ParagraphStrips} {S B N Q m : List �
   written_strips found b is = rw (f.sums, f.best, f.next, f.queue, f.moves, is)
 
   module _ {x : ℕ} (e : x ≡ get_or B 0 0) where
-    pub setting_none : x ≡ 2 ^ 64 - 1 → BreaksSet l ws s (None count) (paragraph_strips S B N Q m s.breaks)
+    pub setting_none : x ≡ 2 ^ 64 - 1 → BreaksSet l ws s (none_answer count) (paragraph_strips S B N Q m s.breaks)
     unfolding paragraph_set
     setting_none h =
         rw (entry_none (best l ws 1) x (e ∙ first_best) number h)
-        (record { tells = ap None f.counted; strips = written_strips [] s.breaks (sym (over_nil s.breaks)) })
+        (record { tells = ap none_answer f.counted; strips = written_strips [] s.breaks (sym (over_nil s.breaks)) })
 
     -- ---- the breaks
     module _ (h : x ≡ 2 ^ 64 - 1 → ⊥) where
@@ -79,7 +80,7 @@ module _ {l : Limits} {ws : List ℕ} {s : ParagraphStrips} {S B N Q m : List �
       }
 
       pub setting_set : {found : ℕ} {b : List ℕ} → Followed (chain N 1 n 1) s.breaks b found →
-          BreaksSet l ws s (Set x found count) (paragraph_strips S B N Q m b)
+          BreaksSet l ws s (set_answer x found count) (paragraph_strips S B N Q m b)
       unfolding paragraph_set breaks Lines.breaks lines chosen_next
       setting_set {found} {b} followed =
           let is : chain N 1 n 1 ≡ breaks l ws = chain_all N 1 n (chosen_next l ws) held 1 leads (omega (arith, a.fill.passed.words)) in

@@ -1,61 +1,20 @@
 -- What the functions of this crate ask and leave. Assumes nothing.
-use Rattle.std.specs.Prelude.{ℕ, ◌+◌, ◌-◌, ◌*◌, ◌^◌, ◌≤◌, ◌<◌, ◌≡◌, Bool, List, [], map, leb, ltb, length, set, replicate}
-use Rattle.laws.specs.Number.{if}
+use Rattle.std.specs.Prelude.{Option}
+use Rattle.std.specs.Prelude.{ℕ, ◌+◌, ◌-◌, ◌*◌, ◌≤◌, ◌<◌, ◌≡◌, List, [], map, length, replicate}
 use Rattle.laws.specs.Outcome.{Promise, Is}
-use Rattle.laws.specs.Part.{listed}
 use Rattle.laws.specs.Strip.{over}
 use Rattle.paper.specs.declared.Limits.{Limits}
-use Rattle.paper.specs.declared.Answer.{Answer}
+use Rattle.paper.specs.Told.{Answer}
 use Rattle.paper.specs.Allowed.{limits_hold, ParagraphPassed}
 use Rattle.paper.specs.Moves.{code, Taken, still}
 use Rattle.paper.specs.Paragraph as Paragraph
-use Rattle.paper.specs.QueueRules.{Standing, text_of, front_next, after_starts, queue_moves}
+use Rattle.paper.specs.QueueRules.{Standing, text_of, after_starts, queue_moves}
 use Rattle.paper.specs.Strips.{entries, sums, best_entry, ParagraphStrips, paragraph_set}
 use Rattle.paper_theory.specs.Ranges.{Ranges}
 use Rattle.strips.specs.Filling.{Entered, ended}
 use Rattle.strips.specs.Words.{words_of, Holds}
-use Rattle.queue.specs.declared.Queue.{Queue}
-use Rattle.queue.specs.Asks.{stood}
 use Rattle.breaks.specs.declared.Chosen.{Chosen}
-
--- ---- what a start takes, on numbers
--- words that sum to so much are, as one line, shorter than the least last length
-abbrev pub below_least : Limits → ℕ → Bool
-below_least l rest = ltb rest (l.lastmin + l.space)
-
--- where the rest as one line is at most lopt
-pub record EndTaken (l : Limits) (rest end : ℕ) (r : Chosen) : Type 0 where
-  pub cost : r.cost ≡ if (below_least l rest) (2 ^ 64 - 1) 0
-  pub next : r.next ≡ if (below_least l rest) 0 end
-
--- The words before the start have that sum, all words the sum e, and a line from the start is at most lopt where it ends no later than the
--- goal.
-abbrev pub taken_at : {A : Type 0} → Limits → ℕ → ℕ → ℕ → A → A → A → A
-taken_at l sum goal e none end front = if (leb e goal) (if (below_least l (e - sum)) none end) front
-
--- the cost is none exactly where nobody stands
-pub record ChooseAsks (l : Limits) (sum e : ℕ) (Q : List ℕ) (q : Queue) : Type 0 where
-  pub ranges : Ranges l
-  pub before : sum ≤ e
-  pub standing : q.end ≤ length Q
-  pub short : length Q ≤ 4096
-  pub nobody : q.end ≤ q.front → q.cost ≡ 2 ^ 64 - 1
-  pub number : q.front < q.end → q.cost < 2 ^ 64 - 1
-
-pub record Chooses (l : Limits) (sum goal e : ℕ) (Q : List ℕ) (q : Queue) (r : Chosen) : Type 0 where
-  pub cost : r.cost ≡ taken_at l sum goal e (2 ^ 64 - 1) 0 q.cost
-  pub next : r.next ≡ taken_at l sum goal e 0 (length Q + 1) (front_next (listed (stood Q q)))
-
-pub record SettleAsks (l : Limits) (i sum e : ℕ) (Q : List ℕ) (q : Queue) (B N : List ℕ) : Type 0 where
-  pub choose : ChooseAsks l sum e Q q
-  pub first : 1 ≤ i
-  pub early : i ≤ length Q
-  pub best : length B ≡ length Q + 1
-  pub next : length N ≡ length Q + 1
-
-pub record Settles (l : Limits) (i sum goal e : ℕ) (Q : List ℕ) (q : Queue) (B N B' N' : List ℕ) : Type 0 where
-  pub best : B' ≡ set B (i - 1) (taken_at l sum goal e (2 ^ 64 - 1) 0 q.cost)
-  pub next : N' ≡ set N (i - 1) (taken_at l sum goal e 0 (length Q + 1) (front_next (listed (stood Q q))))
+use Rattle.breaks.specs.Choosing.{cost_entry, next_entry}
 
 -- ---- all starts, on strips that are exactly long enough
 abbrev pub best_at : Limits → List ℕ → ℕ → ℕ
@@ -65,18 +24,20 @@ best_at l ws i = best_entry (Paragraph.best l ws i)
 abbrev pub so_far : Limits → List ℕ → ℕ → Taken Standing
 so_far l ws i = after_starts (text_of l ws) (length ws) (length ws - i)
 
+-- the sums of words that refusals 1 to 4 pass
+pub record Summed (l : Limits) (S : List ℕ) : Type 0 where
+  pub holds : Holds (limits_hold l) l.space S
+  pub ranges : Ranges l
+  pub size : length S ≡ length (words_of S) + 1
+
 -- the best strip holds the bests of the starts after i
 pub record Done (l : Limits) (S B : List ℕ) (i : ℕ) : Type 0 where
-  pub holds : Holds (limits_hold l) l.space S
+  pub sums : Summed l S
   pub bests : Entered (best_at l (words_of S)) 1 (length (words_of S)) (i + 1) B
 
-pub record LastAsks (l : Limits) (S B N : List ℕ) : Type 0 where
-  pub holds : Holds (limits_hold l) l.space S
+pub record LastAsks (S B N : List ℕ) : Type 0 where
   pub best : length B ≡ length S
   pub next : length N ≡ length S
-
-abbrev pub shortest_of : Limits → ℕ
-shortest_of l = if (ltb l.lastmin l.lmin) l.lastmin l.lmin
 
 -- the starts down to i + 1 are done, and no rule has moved
 pub record Begun (l : Limits) (S B N : List ℕ) (i : ℕ) : Type 0 where
@@ -90,19 +51,18 @@ abbrev pub rest_at : Limits → List ℕ → ℕ → ℕ
 rest_at l S k = Paragraph.line_length l (words_of S) k (Paragraph.end (words_of S))
 
 -- the starts whose rest is shorter than `below` take the same
-pub record ShortAsks (l : Limits) (below : ℕ) (t : Chosen) (from : ℕ) (S B N : List ℕ) : Type 0 where
+pub record ShortAsks (l : Limits) (below : ℕ) (t : Option Chosen) (from : ℕ) (S B N : List ℕ) : Type 0 where
   pub begun : Begun l S B N from
   pub narrow : below ≤ l.lmin
   pub takes : (k : ℕ) → 1 ≤ k → k ≤ from → rest_at l S k < below →
-      (best_at l (words_of S) k ≡ t.cost) × (Paragraph.chosen_next l (words_of S) k ≡ t.next)
+      (best_at l (words_of S) k ≡ cost_entry t) × (Paragraph.chosen_next l (words_of S) k ≡ next_entry t)
 
 pub record ShortDone (l : Limits) (below from : ℕ) (S B N : List ℕ) (i : ℕ) : Type 0 where
   pub begun : Begun l S B N i
   pub low : i ≤ from
   pub long : 1 ≤ i → below ≤ rest_at l S i
 
-pub record StartsAsk (l : Limits) (S B N Q m : List ℕ) : Type 0 where
-  pub holds : Holds (limits_hold l) l.space S
+pub record StartsAsk (S B N Q m : List ℕ) : Type 0 where
   pub best : length B ≡ length S
   pub next : length N ≡ length S
   pub queue : length Q + 1 ≡ length S

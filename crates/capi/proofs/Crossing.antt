@@ -3,7 +3,7 @@ use mathlib.Core.Path.{◌≡◌, refl, ap, ◌∙◌}
 use Rattle.laws.specs.Outcome.{Outcome, Promise, Answers}
 use Rattle.paper.specs.declared.Refusal.{Refusal}
 use Rattle.paper.specs.declared.Refusal.TheVariants.{Empty, Many, Limits, Length, Room, Job}
-use Rattle.paper.specs.declared.Answer.{Answer}
+use Rattle.paper.specs.Told.{Answer}
 use Rattle.paper.specs.Told.{told, told_refusal, refused_at}
 use Rattle.capi.specs.declared.Numbers.{Numbers}
 use Rattle.capi.specs.Promise.{in_numbers, NumbersPromise}

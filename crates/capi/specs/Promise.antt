@@ -1,7 +1,7 @@
 -- What callers from C and Rust are promised: an answer as 01's numbers, and every strip. Assumes nothing.
 use Rattle.std.specs.Prelude.{◌≡◌, List, ℕ, ◌+◌}
 use Rattle.laws.specs.Outcome.{Outcome, Promise, agree, As, as_single}
-use Rattle.paper.specs.declared.Answer.{Answer}
+use Rattle.paper.specs.Told.{Answer}
 use Rattle.paper.specs.Told.{Told, told}
 use Rattle.paper.specs.Strips.{ParagraphStrips, ParagraphOutcome, IndexStrips, IndexOutcome}
 use Rattle.job.specs.Promise.{ToldJob, told_job}

@@ -4,20 +4,19 @@
 
 ghost use Rattle.std.specs.Prelude.{◌≡◌};
 ghost use Rattle.paper.specs.Strips.{paragraph_strips, paragraph_outcome, index_strips, index_outcome};
-ghost use Rattle.paper.specs.Told.{told, told_refusal, told_total, told_penalty, penalty_alone};
+ghost use Rattle.paper.specs.Told.{told, told_refusal, told_penalty, penalty_alone};
 ghost use Rattle.job.specs.Reader.{read_outcome};
-ghost use Rattle.job.specs.Promise.{told_job};
-ghost use Rattle.job.specs.declared.Job.TheVariants.{Read};
+ghost use Rattle.job.specs.Promise.{told_job, told_limits};
 ghost use Rattle.capi.specs.Promise.{in_numbers, in_job_numbers, NumbersPromise, JobNumbersPromise};
 
-use job::{Asked, Job, JobLimits, read};
-use paper::{Answer, Limits, PageLimits, Penalty, Refusal};
-use refusals::told_refusal;
+use job::{Asked, Job, read};
+use paper::{Limits, PageLimits, Refusal, Set, Unset};
+use refusals::Reason;
 use setter::{penalty_alone, set_index, set_paragraph};
 
 // 01's number (0 where something is set), place, total, lines and moves.
 #[repr(C)]
-#[derive(Clone, Copy)]
+#[derive(Clone, Copy, Debug, PartialEq, Eq)]
 pub struct Numbers {
     pub number: u32,
     pub place: u64,
@@ -28,7 +27,7 @@ pub struct Numbers {
 
 // 01's number and place, the first count, the limits, and n.
 #[repr(C)]
-#[derive(Clone, Copy)]
+#[derive(Clone, Copy, Debug, PartialEq, Eq)]
 pub struct JobNumbers {
     pub number: u32,
     pub place: u64,
@@ -42,120 +41,128 @@ pub struct JobNumbers {
 }
 
 // The total that is told of a line outside the measure: 2^64 - 1, "no setting".
-const OUTSIDE: u64 = 18446744073709551615;
+const OUTSIDE: u64 = u64::MAX;
 
-fn tell_refusal(r: Refusal) -> Numbers
-    ensures { result ≡ in_numbers (told_refusal r) }
-{
-    let t = told_refusal(r);
-    Numbers {
-        number: t.number,
-        place: t.place as u64,
-        total: 0,
-        lines: 0,
-        moves: 0,
-    }
-}
+// Nothing told.
+const NOTHING: Numbers = Numbers {
+    number: 0,
+    place: 0,
+    total: 0,
+    lines: 0,
+    moves: 0,
+};
 
-fn tell(a: Answer) -> Numbers
-    ensures { result ≡ in_numbers (told a) }
-{
-    match a {
-        Answer::Set {
-            total,
-            lines,
-            moves,
-        } => Numbers {
-            number: 0,
-            place: 0,
-            total,
-            lines: lines as u64,
-            moves: moves as u64,
-        },
-        Answer::None { moves } => Numbers {
-            number: 6,
-            place: 0,
-            total: 0,
-            lines: 0,
-            moves: moves as u64,
-        },
-        Answer::Refused(r) => tell_refusal(r),
-    }
-}
+impl From<Refusal> for Numbers {
+    ghost from_gives = { λ r t. t ≡ in_numbers (told_refusal r) };
 
-// A total and nothing else.
-fn tell_total(total: u64) -> Numbers
-    ensures { result ≡ in_numbers (told_total total) }
-{
-    Numbers {
-        number: 0,
-        place: 0,
-        total,
-        lines: 0,
-        moves: 0,
-    }
-}
-
-fn tell_penalty(p: Penalty) -> Numbers
-    ensures { result ≡ in_numbers (told_penalty p) }
-{
-    match p {
-        Penalty::Of(penalty) => tell_total(penalty),
-        Penalty::Outside => tell_total(OUTSIDE),
-        Penalty::Refused(r) => tell_refusal(r),
-    }
-}
-
-fn tell_job(j: Job) -> JobNumbers
-    ensures { result ≡ in_job_numbers (told_job j) }
-{
-    match j {
-        Job::Read(l, n) => tell_read(l, n),
-        Job::Refused(r) => {
-            let t = tell_refusal(r);
-            JobNumbers {
-                number: t.number,
-                place: t.place,
-                count: 0,
-                lmin: 0,
-                lopt: 0,
-                lmax: 0,
-                a: 0,
-                space: 0,
-                n: 0,
-            }
+    fn from(r: Refusal) -> Numbers {
+        let t = Reason::from(r);
+        Numbers {
+            number: t.number,
+            place: t.place as u64,
+            ..NOTHING
         }
     }
 }
 
-fn tell_read(limits: JobLimits, n: usize) -> JobNumbers
-    ensures { result ≡ in_job_numbers (told_job (Read limits n)) }
-{
-    let count = limits.count;
-    let asked = limits.asked;
-    match asked {
-        Asked::Paragraph(l) => JobNumbers {
-            number: 0,
-            place: 0,
-            count,
-            lmin: l.lmin,
-            lopt: l.lopt,
-            lmax: l.lmax,
-            a: l.a,
-            space: l.space,
-            n: n as u64,
-        },
-        Asked::Index(l) => JobNumbers {
-            number: 0,
-            place: 0,
-            count,
-            lmin: l.lmin,
-            lopt: 0,
-            lmax: l.lmax,
-            a: 0,
-            space: 0,
-            n: n as u64,
-        },
+impl From<Result<Set, Unset>> for Numbers {
+    ghost from_gives = { λ a t. t ≡ in_numbers (told a) };
+
+    #[tactic(auto, unfolding(paper::specs::Told::told))]
+    fn from(a: Result<Set, Unset>) -> Numbers {
+        match a {
+            Ok(set) => Numbers {
+                total: set.total,
+                lines: set.lines as u64,
+                moves: set.moves as u64,
+                ..NOTHING
+            },
+            Err(Unset::None { moves }) => Numbers {
+                number: 6,
+                moves: moves as u64,
+                ..NOTHING
+            },
+            Err(Unset::Refused(r)) => Numbers::from(r),
+        }
+    }
+}
+
+impl From<Result<Option<u64>, Refusal>> for Numbers {
+    ghost from_gives = { λ p t. t ≡ in_numbers (told_penalty p) };
+
+    #[tactic(auto, unfolding(paper::specs::Told::told_penalty))]
+    fn from(p: Result<Option<u64>, Refusal>) -> Numbers {
+        match p {
+            Ok(Some(penalty)) => Numbers {
+                total: penalty,
+                ..NOTHING
+            },
+            Ok(None) => Numbers {
+                total: OUTSIDE,
+                ..NOTHING
+            },
+            Err(r) => Numbers::from(r),
+        }
+    }
+}
+
+// Nothing told of a job.
+const NO_JOB: JobNumbers = JobNumbers {
+    number: 0,
+    place: 0,
+    count: 0,
+    lmin: 0,
+    lopt: 0,
+    lmax: 0,
+    a: 0,
+    space: 0,
+    n: 0,
+};
+
+impl From<Job> for JobNumbers {
+    ghost from_gives = { λ job t. t ≡ in_job_numbers (told_limits job.limits.count job.limits.asked job.n) };
+
+    fn from(job: Job) -> JobNumbers {
+        let count = job.limits.count;
+        let n = job.n as u64;
+        match job.limits.asked {
+            Asked::Paragraph(l) => JobNumbers {
+                count,
+                lmin: l.lmin,
+                lopt: l.lopt,
+                lmax: l.lmax,
+                a: l.a,
+                space: l.space,
+                n,
+                ..NO_JOB
+            },
+            Asked::Index(l) => JobNumbers {
+                count,
+                lmin: l.lmin,
+                lmax: l.lmax,
+                n,
+                ..NO_JOB
+            },
+        }
+    }
+}
+
+impl From<Result<Job, Refusal>> for JobNumbers {
+    ghost from_gives = { λ j t. t ≡ in_job_numbers (told_job j) };
+
+    #[tactic(auto, unfolding(job::specs::Promise::told_job))]
+    fn from(j: Result<Job, Refusal>) -> JobNumbers {
+        match j {
+            Ok(job) => JobNumbers::from(job),
+            Err(r) => {
+                let t = Numbers::from(r);
+                JobNumbers {
+                    number: t.number,
+                    place: t.place,
+                    ..NO_JOB
+                }
+            }
+        }
     }
 }
 
@@ -175,7 +182,7 @@ pub fn hathurmo_set_paragraph(
         result (paragraph_strips sums.new best.new next.new
         queue.new moves.new breaks.new) }
 {
-    tell(set_paragraph(limits, lengths, sums, best, next, queue, moves, breaks))
+    Numbers::from(set_paragraph(limits, lengths, sums, best, next, queue, moves, breaks))
 }
 
 pub fn hathurmo_set_index(
@@ -195,7 +202,7 @@ pub fn hathurmo_set_index(
         result (index_strips sums.new best.new next.new
         left.new right.new moves.new boundaries.new) }
 {
-    tell(set_index(
+    Numbers::from(set_index(
         limits, lengths, sums, best, next, left, right, moves, boundaries,
     ))
 }
@@ -203,11 +210,11 @@ pub fn hathurmo_set_index(
 pub fn hathurmo_penalty(limits: Limits, length: u32) -> Numbers
     ensures { result ≡ in_numbers (told_penalty (penalty_alone limits length)) }
 {
-    tell_penalty(penalty_alone(limits, length))
+    Numbers::from(penalty_alone(limits, length))
 }
 
 pub fn hathurmo_read_job(job: &[u8], lengths: &mut [u32]) -> JobNumbers
     ensures { JobNumbersPromise (read_outcome job.now lengths.old) result lengths.new }
 {
-    tell_job(read(job, lengths))
+    JobNumbers::from(read(job, lengths))
 }

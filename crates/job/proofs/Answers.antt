@@ -14,18 +14,19 @@ use Rattle.paper.specs.Allowed.{most_words}
 use Rattle.paper.specs.declared.Refusal.{Refusal}
 use Rattle.paper.specs.declared.Refusal.TheVariants.{Many, Room, Job as Malformed}
 use Rattle.job.specs.declared.JobLimits.{JobLimits}
-use Rattle.job.specs.declared.Job.TheVariants.{Read, Refused}
-use Rattle.job.specs.Reader.{Reading, refuse, accept, reading_outcome, section, to_end, lengths_from, lengths_after}
+use Rattle.std.specs.Prelude.{Ok, Err}
+use Rattle.paper.specs.Told.{Checked}
+use Rattle.job.specs.Reader.{Reading, refuse, accept, read_as, reading_outcome, section, to_end, lengths_from, lengths_after}
 use Rattle.job.specs.Reader.{announced, asked_by, limits_by, limits_from}
 use Rattle.job.specs.Section.{first_numbers, SectionIs, section_whole}
 use Rattle.job.proofs.Sections.{cut_refused, whole_written, whole_made}
 
-pub refused : {o : Reading} {r : Refusal} {s t : List ℕ} → o ≡ refuse r → t ≡ s → Promise Is (reading_outcome o s) (Refused r) t
+pub refused : {o : Reading} {r : Refusal} {s t : List ℕ} → o ≡ refuse r → t ≡ s → Promise Is (reading_outcome o s) (Err r) t
 unfolding reading_outcome
 refused e f = rw e (record { tells = refl; strips = f })
 
 pub accepted : (s : List ℕ) {o : Reading} {limits : JobLimits} {ws t : List ℕ} {n : ℕ} → o ≡ accept limits ws → n ≡ length ws →
-    t ≡ over ws s → Promise Is (reading_outcome o s) (Read limits n) t
+    t ≡ over ws s → Promise Is (reading_outcome o s) (read_as limits n) t
 unfolding reading_outcome
 accepted s e f g = rw (e, f) (record { tells = refl; strips = g })
 
@@ -49,14 +50,14 @@ module _ (job : List ℕ) (room : ℕ) (limits : JobLimits) (at n : ℕ) where
       unfolding to_end
       lengths_left h = taken ∙ section_whole job at n _ (omega (arith, length-drop at job)) ∙ rw (lt-ltb (at + 4 * n) (length job) h)
 
-      module _ {before : List ℕ} {complete : ℕ} {after : List ℕ} (s : SectionIs (drop at job) n before complete after) where
-        pub lengths_cut : complete < n → lengths_from job room limits at n ≡ refuse (Malformed (at + 4 * complete))
-        lengths_cut h = taken ∙ cut_refused job at s h _
+      module _ {before : List ℕ} {found : Checked} {after : List ℕ} (s : SectionIs (drop at job) at n before found after) where
+        pub lengths_cut : {r : Refusal} → found ≡ Err r → lengths_from job room limits at n ≡ refuse r
+        lengths_cut e = taken ∙ cut_refused job at s e _
 
-        pub lengths_whole : n ≤ complete → length job ≤ at + 4 * n →
+        pub lengths_whole : {u : Unit {0}} → found ≡ Ok u → length job ≤ at + 4 * n →
             lengths_from job room limits at n ≡ accept limits (first_numbers (drop at job) n)
         unfolding to_end
-        lengths_whole h end = taken ∙ whole_made job at s h _ ∙ rw (le-ltb (at + 4 * n) (length job) end)
+        lengths_whole e end = taken ∙ whole_made job at s e _ ∙ rw (le-ltb (at + 4 * n) (length job) end)
 
 -- ---- the limits
 -- what stands past the limits in a strip of zeros is as if nothing stood there
@@ -79,12 +80,13 @@ module _ (job : List ℕ) (room count : ℕ) where
   unfolding limits_from
   limits_unknown e = rw e
 
-  module _ (e : announced count ≡ true) (n : ℕ) {given : ℕ} {after : List ℕ}
-      (s : SectionIs (drop 4 job) count (replicate n 0) given after) where
-    pub limits_cut : given < count → limits_from job room count ≡ refuse (Malformed (4 + 4 * given))
+  module _ (e : announced count ≡ true) (n : ℕ) {found : Checked} {after : List ℕ}
+      (s : SectionIs (drop 4 job) 4 count (replicate n 0) found after) where
+    pub limits_cut : {r : Refusal} → found ≡ Err r → limits_from job room count ≡ refuse r
     unfolding limits_from
-    limits_cut h = rw e (cut_refused job 4 s h _)
+    limits_cut f = rw e (cut_refused job 4 s f _)
 
-    pub limits_whole : count ≤ given → limits_from job room count ≡ lengths_after job room (4 + 4 * count) (limits_by count after)
+    pub limits_whole : {u : Unit {0}} → found ≡ Ok u →
+        limits_from job room count ≡ lengths_after job room (4 + 4 * count) (limits_by count after)
     unfolding limits_from asked_by
-    limits_whole h = rw (e, whole_written s h) (whole_made job 4 s h _ ∙ simp (over_zeros (first_numbers (drop 4 job) count) n))
+    limits_whole f = rw (e, whole_written s f) (whole_made job 4 s f _ ∙ simp (over_zeros (first_numbers (drop 4 job) count) n))

@@ -10,7 +10,7 @@ use Rattle.paper.specs.Allowed.{most_words}
 use Rattle.paper.specs.Told.{told_refusal}
 use Rattle.job.specs.declared.JobLimits.{JobLimits}
 use Rattle.job.specs.declared.Job.{Job}
-use Rattle.job.specs.declared.Job.TheVariants.{Read}
+use Rattle.job.specs.Reader.{JobAnswer, read_as}
 use Rattle.job.specs.Reader.{Reading, accept, section, counted, to_end, lengths_from, lengths_after}
 use Rattle.job.specs.Reader.{announced, limits_by, limits_from, reading, read_outcome}
 use Rattle.job.specs.Section.{first_numbers, length_numbers, section_whole, section_cut}
@@ -62,8 +62,8 @@ module _ (job : List ℕ) (room : ℕ) where
       (λ other. omega arith))
 
 -- One who reads a job finds its n lengths in the strip.
-pub read_within : (job s : List ℕ) {r : Job} {t : List ℕ} {limits : JobLimits} {n : ℕ} →
-    Promise Is (read_outcome job s) r t → r ≡ Read limits n → n ≤ length t
+pub read_within : (job s : List ℕ) {r : JobAnswer} {t : List ℕ} {limits : JobLimits} {n : ℕ} →
+    Promise Is (read_outcome job s) r t → r ≡ read_as limits n → n ≤ length t
 unfolding read_outcome
 read_within job s {t = t} {limits = limits} p e =
     let a = accepted_writes (reading job (length s)) s p e in

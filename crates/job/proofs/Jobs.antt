@@ -6,10 +6,8 @@ use Rattle.paper.specs.declared.Refusal.TheVariants.{Many, Room, Job as Malforme
 use Rattle.paper.specs.Allowed.{spaced_limits, limits_of, page_limits_of}
 use Rattle.paper.specs.Told.{told_refusal}
 use Rattle.job.specs.declared.Asked.TheVariants.{Paragraph, Index}
-use Rattle.job.specs.declared.Job.{Job}
-use Rattle.job.specs.declared.Job.TheVariants.{Read, Refused}
-use Rattle.job.specs.Reader.{number}
-use Rattle.job.specs.Reader.{asked_by, read_outcome}
+use Rattle.std.specs.Prelude.{Err}
+use Rattle.job.specs.Reader.{number, asked_by, JobAnswer, read_as, read_outcome}
 use Rattle.job.specs.Promise.{told_job, no_limits, no_pages}
 use Rattle.job.specs.Jobs.{bytes, job_P1, job_space, job_G1, worked}
 
@@ -21,13 +19,13 @@ number_of_bytes = refl
 abbrev nines : List ℕ
 nines = replicate 6 9
 
-abbrev index27 : ℕ → Job
-index27 n = Read (record { count = 2; asked = Index (page_limits_of 2 7) }) n
+abbrev index27 : ℕ → JobAnswer
+index27 n = read_as (record { count = 2; asked = Index (page_limits_of 2 7) }) n
 
 -- ---- jobs that are read: the n lengths are written, and no entry past them. "A count of 0 lengths is read".
 pub read_jobs : map (λ (job : List ℕ). read_outcome job nines) (job_P1 ∷ job_space ∷ job_G1 ∷ bytes (2 ∷ 2 ∷ 7 ∷ 0 ∷ []) ∷ [])
-    ≡ record { answer = Read (record { count = 4; asked = Paragraph (limits_of 1 6 6 1) }) 4; strips = 3 ∷ 2 ∷ 2 ∷ 5 ∷ 9 ∷ 9 ∷ [] }
-    ∷ record { answer = Read (record { count = 5; asked = Paragraph (spaced_limits 1 5 6 1 1) }) 4; strips = 4 ∷ 3 ∷ 3 ∷ 6 ∷ 9 ∷ 9 ∷ [] }
+    ≡ record { answer = read_as (record { count = 4; asked = Paragraph (limits_of 1 6 6 1) }) 4; strips = 3 ∷ 2 ∷ 2 ∷ 5 ∷ 9 ∷ 9 ∷ [] }
+    ∷ record { answer = read_as (record { count = 5; asked = Paragraph (spaced_limits 1 5 6 1 1) }) 4; strips = 4 ∷ 3 ∷ 3 ∷ 6 ∷ 9 ∷ 9 ∷ [] }
     ∷ record { answer = index27 4; strips = 3 ∷ 4 ∷ 2 ∷ 5 ∷ 9 ∷ 9 ∷ [] }
     ∷ record { answer = index27 0; strips = nines }
     ∷ []
@@ -47,11 +45,11 @@ unfolding asked_by
 four_no_space l e = rw (get_or-eq_default l 0 {n = 4} (omega arith))
 
 -- ---- jobs that are refused
-abbrev answers : List (List ℕ) → List Job
+abbrev answers : List (List ℕ) → List JobAnswer
 answers jobs = map (λ (job : List ℕ). (read_outcome job nines).answer) jobs
 
-abbrev malformed_at : List ℕ → List Job
-malformed_at places = map (λ (k : ℕ). Refused (Malformed k)) places
+abbrev malformed_at : List ℕ → List JobAnswer
+malformed_at places = map (λ (k : ℕ). Err (Malformed k)) places
 
 -- no byte; a first count cut short; three that are none of 5, 4 and 2
 pub first_counts : answers (
@@ -75,16 +73,16 @@ cut_space_jobs = refl
 -- n is 4,097, or 2^32 - 1: MANY. It is 7, or 4,096: ROOM, before the lengths that are not there.
 pub many_and_room : answers (map (λ (n : List ℕ). bytes (2 ∷ 2 ∷ 7 ∷ []) ++ n)
     ((1 ∷ 16 ∷ 0 ∷ 0 ∷ []) ∷ (255 ∷ 255 ∷ 255 ∷ 255 ∷ []) ∷ (7 ∷ 0 ∷ 0 ∷ 0 ∷ []) ∷ (0 ∷ 16 ∷ 0 ∷ 0 ∷ []) ∷ []))
-    ≡ Refused Many ∷ Refused Many ∷ Refused (Room 1) ∷ Refused (Room 1) ∷ []
+    ≡ Err Many ∷ Err Many ∷ Err (Room 1) ∷ Err (Room 1) ∷ []
 unfolding worked
 many_and_room = refl
 
 -- "A refused read leaves the lengths strip unchanged and returns zero for limits and n."
-pub short_strip : read_outcome job_P1 (9 ∷ 9 ∷ 9 ∷ []) ≡ record { answer = Refused (Room 1); strips = 9 ∷ 9 ∷ 9 ∷ [] }
+pub short_strip : read_outcome job_P1 (9 ∷ 9 ∷ 9 ∷ []) ≡ record { answer = Err (Room 1); strips = 9 ∷ 9 ∷ 9 ∷ [] }
 unfolding worked
 short_strip = refl
 
 pub short_strip_told :
-    told_job (Refused (Room 1)) ≡ record { number = 5; place = 1; count = 0; limits = no_limits; pages = no_pages; n = 0 }
+    told_job (Err (Room 1)) ≡ record { number = 5; place = 1; count = 0; limits = no_limits; pages = no_pages; n = 0 }
 unfolding told_job told_refusal
 short_strip_told = refl

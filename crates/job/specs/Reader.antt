@@ -1,5 +1,6 @@
 -- 01, "Job file and listing": what a job is read as, from its bytes and the lengths strip alone. Assumes nothing.
 use Rattle.std.specs.Prelude.{ℕ, zero, suc, ◌+◌, ◌*◌, ◌^◌, Bool, true, false, ◌||◌, List, [], ◌∷◌, ltb, eqb, length, get_or, drop}
+use Rattle.std.specs.Prelude.{Result, Ok, Err}
 use Rattle.laws.specs.Number.{if}
 use Rattle.laws.specs.Strip.{over}
 use Rattle.laws.specs.Outcome.{Outcome}
@@ -10,7 +11,6 @@ use Rattle.job.specs.declared.Asked.{Asked}
 use Rattle.job.specs.declared.Asked.TheVariants.{Paragraph, Index}
 use Rattle.job.specs.declared.JobLimits.{JobLimits}
 use Rattle.job.specs.declared.Job.{Job}
-use Rattle.job.specs.declared.Job.TheVariants.{Read, Refused}
 
 -- what a read comes to: a refusal, or the limits with the lengths
 pub data Reading : Type 0 where
@@ -83,13 +83,19 @@ unfoldable pub reading : List ℕ → ℕ → Reading
 reading job room = counted job 0 (limits_from job room)
 
 -- ---- the outcome: the answer, and the lengths strip at exit
+abbrev pub JobAnswer : Type 0
+JobAnswer = Result Job Refusal
+
+abbrev pub read_as : JobLimits → ℕ → JobAnswer
+read_as limits n = Ok (record { limits = limits; n = n })
+
 abbrev pub ReadOutcome : Type 0
-ReadOutcome = Outcome Job (List ℕ)
+ReadOutcome = Outcome JobAnswer (List ℕ)
 
 -- "A refused read leaves the lengths strip unchanged [..]. An accepted read writes the n lengths and no entry past them."
 unfoldable pub reading_outcome : Reading → List ℕ → ReadOutcome
-reading_outcome (refuse r) s = record { answer = Refused r; strips = s }
-reading_outcome (accept limits ws) s = record { answer = Read limits (length ws); strips = over ws s }
+reading_outcome (refuse r) s = record { answer = Err r; strips = s }
+reading_outcome (accept limits ws) s = record { answer = read_as limits (length ws); strips = over ws s }
 
 unfoldable pub read_outcome : List ℕ → List ℕ → ReadOutcome
 read_outcome job s = reading_outcome (reading job (length s)) s

@@ -1,11 +1,13 @@
 -- The numbers of a section, each found by its place: what the section reader writes. The definition takes them one after another, and comes
 -- to the same. Assumes nothing but what each law states.
-use Rattle.std.specs.Prelude.{ℕ, zero, suc, ◌+◌, ◌*◌, ◌/◌, ◌≤◌, ◌<◌, min, ◌≡◌, refl, List, [], ◌∷◌, ◌++◌, leb, length, get_or, drop}
+use Rattle.std.specs.Prelude.{ℕ, zero, suc, ◌+◌, ◌*◌, ◌/◌, ◌≤◌, ◌<◌, ◌≡◌, refl, List, [], ◌∷◌, ◌++◌, leb, length, get_or, drop}
 use Rattle.std.proofs.Math.Path.{ap}
 use Rattle.std.proofs.Common.{sym, ◌∙◌, ⊎_elim, add_assoc, arith, lt-ltb, le-ltb, length-append, get_or-drop}
 use Rattle.std.proofs.Math.ListN.{length-drop}
+use Rattle.std.specs.Prelude.{Ok, Err}
 use Rattle.laws.specs.Number.{if, split}
 use Rattle.laws.specs.Strip.{over}
+use Rattle.paper.specs.Told.{Checked}
 use Rattle.paper.specs.declared.Refusal.TheVariants.{Job as Malformed}
 use Rattle.job.specs.Reader.{Reading, refuse, number, numbers, section, counted}
 
@@ -14,9 +16,10 @@ unfoldable pub first_numbers : List ℕ → ℕ → List ℕ
 first_numbers part zero = []
 first_numbers part (suc k) = first_numbers part k ++ (number part (4 * k) ∷ [])
 
--- n numbers are asked of a part: how many of them are complete, and the strip, written only where all are
-pub record SectionIs (part : List ℕ) (n : ℕ) (before : List ℕ) (complete : ℕ) (after : List ℕ) : Type 0 where
-  pub count : complete ≡ min n (length part / 4)
+-- n numbers are asked of a part that begins at the byte `at`: the strip is written only where all are complete, and else the first that is
+-- not is refused
+pub record SectionIs (part : List ℕ) (at n : ℕ) (before : List ℕ) (found : Checked) (after : List ℕ) : Type 0 where
+  pub answer : found ≡ if (leb n (length part / 4)) (Ok tt) (Err (Malformed (at + 4 * (length part / 4))))
   pub strip : after ≡ if (leb n (length part / 4)) (over (first_numbers part n) before) before
 
 number_drop : (part : List ℕ) (a k : ℕ) → number (drop a part) k ≡ number part (a + k)

@@ -9,7 +9,8 @@ use Rattle.paper.specs.declared.Limits.{Limits}
 use Rattle.paper.specs.Paragraph.{penalty}
 use Rattle.paper_theory.specs.Bound.{penalty_bound}
 use Rattle.lines.proofs.Signed.{Squaring}
-use Rattle.lines.specs.Asks.{costliest, Weighing, Products}
+use Rattle.lines.specs.declared.Break.{Break}
+use Rattle.lines.specs.Asks.{costliest, Weighing, Three}
 
 -- "the penalty of a line inside the measure stays below 2^28", read by where the line ends; so its square does too, A being at least 1
 module _ {l : Limits} {x y : ℕ} (w : Weighing l x y) where
@@ -37,26 +38,29 @@ module _ {l : Limits} {x y : ℕ} (w : Weighing l x y) where
   }
 
 -- every product of the second test
-pub record Fitting (a jk jn kn bj bk bn : ℕ) : Type 0 where
-  pub jk_bn : jk * bn ≤ 4095 * costliest
-  pub kn_bj : kn * bj ≤ 4095 * costliest
-  pub jk_jn : jk * jn ≤ 4095 * 4095
-  pub jk_jn_kn : jk * jn * kn ≤ 4095 * 4095 * 4095
-  pub whole : a * (jk * jn * kn) ≤ 15 * (4095 * 4095 * 4095)
-  pub jn_bk : jn * bk ≤ 4095 * costliest
+pub record Fitting (l : Limits) (j k n : Break) : Type 0 where
+  pub jk_bn : (k.end - j.end) * n.best ≤ 4095 * costliest
+  pub kn_bj : (n.end - k.end) * j.best ≤ 4095 * costliest
+  pub jk_jn : (k.end - j.end) * (n.end - j.end) ≤ 4095 * 4095
+  pub jk_jn_kn : (k.end - j.end) * (n.end - j.end) * (n.end - k.end) ≤ 4095 * 4095 * 4095
+  pub whole : l.a * ((k.end - j.end) * (n.end - j.end) * (n.end - k.end)) ≤ 15 * (4095 * 4095 * 4095)
+  pub jn_bk : (n.end - j.end) * k.best ≤ 4095 * costliest
 
-at_most : {m n : ℕ} → m < n → m ≤ n
-at_most h = omega arith
-
-pub fitting : {a jk jn kn bj bk bn : ℕ} → Products a jk jn kn bj bk bn → Fitting a jk jn kn bj bk bn
-fitting p =
-    let two = mul-le-mul p.jk_small p.jn_small in
-    let three = mul-le-mul two p.kn_small in
+pub fitting : {l : Limits} {j k n : Break} → Three l j k n → Fitting l j k n
+fitting {l} {j} {k} {n} t =
+    let jk : k.end - j.end ≤ 4095 = omega (arith, t.kn, t.near, t.ranges.lmax_high) in
+    let jn : n.end - j.end ≤ 4095 = omega (arith, t.near, t.ranges.lmax_high) in
+    let kn : n.end - k.end ≤ 4095 = omega (arith, t.jk, t.near, t.ranges.lmax_high) in
+    let bj : j.best ≤ costliest = omega (arith, t.j_break.number) in
+    let bk : k.best ≤ costliest = omega (arith, t.k_break.number) in
+    let bn : n.best ≤ costliest = omega (arith, t.n_break.number) in
+    let two = mul-le-mul jk jn in
+    let three = mul-le-mul two kn in
     record {
-      jk_bn = mul-le-mul p.jk_small (at_most p.n_best);
-      kn_bj = mul-le-mul p.kn_small (at_most p.j_best);
+      jk_bn = mul-le-mul jk bn;
+      kn_bj = mul-le-mul kn bj;
       jk_jn = two;
       jk_jn_kn = three;
-      whole = mul-le-mul p.weight three;
-      jn_bk = mul-le-mul p.jn_small (at_most p.k_best);
+      whole = mul-le-mul t.ranges.a_high three;
+      jn_bk = mul-le-mul jn bk;
     }

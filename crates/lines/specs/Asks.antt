@@ -98,13 +98,3 @@ pub record Three (l : Limits) (j k n : Break) : Type 0 where
   pub j_break : Priced j
   pub k_break : Priced k
   pub n_break : Priced n
-
--- numbers whose products the second test of "bridged" may take
-pub record Products (a jk jn kn bj bk bn : ℕ) : Type 0 where
-  pub weight : a ≤ 15
-  pub jk_small : jk ≤ 4095
-  pub jn_small : jn ≤ 4095
-  pub kn_small : kn ≤ 4095
-  pub j_best : bj < costliest
-  pub k_best : bk < costliest
-  pub n_best : bn < costliest

@@ -7,12 +7,11 @@ ghost use Rattle.laws.specs.Square.{sqd};
 ghost use Rattle.paper_theory.specs.Ranges.{Ranges};
 ghost use Rattle.paper.specs.Lines.{Inside};
 ghost use Rattle.paper.specs.Paragraph.{penalty as formula};
-ghost use Rattle.lines.specs.Held.{span, begins, break_in, cost_at, side_at, edge_at, chord_of, chord_at, bridged_at};
+ghost use Rattle.lines.specs.Held.{span, begins, break_in, cost_at, side_at, edge_at, chord_at, bridged_at};
 ghost use Rattle.lines.specs.Asks.{Span, Beginning, Placed, Moving, Moved, Indexed, Weighing, Curved, Through, Sided};
-ghost use Rattle.lines.specs.Asks.{Three, Products};
+ghost use Rattle.lines.specs.Asks.{Three};
 
 use paper::Limits;
-use strips::long;
 
 // Where a line from a start is inside the measure: it ends at near to far, at best at goal.
 #[derive(Clone, Copy)]
@@ -88,7 +87,7 @@ fn weighed(l: Limits, x: u32, y: u32) -> u64
     ensures { (result ≡ l.a * sqd x y) × (result < 2 ^ 28) }
 {
     let d = x as i32 - y as i32;
-    long(l.a * (d * d) as u32)
+    u64::from(l.a * (d * d) as u32)
 }
 
 // The penalty formula, A·(x - lopt)², inside the measure.
@@ -132,21 +131,15 @@ fn edge(l: Limits, j: Break, k: Break, n: Break) -> bool
 }
 
 // The second test, by how far the breaks lie apart.
-fn above(a: u64, jk: u64, jn: u64, kn: u64, bj: u64, bk: u64, bn: u64) -> bool
-    requires { Products a jk jn kn bj bk bn }
-    ensures { result ≡ chord_of a jk jn kn bj bk bn }
-{
-    jk * bn + kn * bj + a * (jk * jn * kn) <= jn * bk
-}
-
+#[tactic(auto, using(crate::proofs::Sizes::fitting))]
 fn chord(l: Limits, j: Break, k: Break, n: Break) -> bool
     requires { Three l j k n }
     ensures { result ≡ chord_at l j k n }
 {
-    let jk = long(k.end - j.end);
-    let jn = long(n.end - j.end);
-    let kn = long(n.end - k.end);
-    above(long(l.a), jk, jn, kn, j.best, k.best, n.best)
+    let jk = u64::from(k.end - j.end);
+    let jn = u64::from(n.end - j.end);
+    let kn = u64::from(n.end - k.end);
+    jk * n.best + kn * j.best + u64::from(l.a) * (jk * jn * kn) <= jn * k.best
 }
 
 // Whether the rear k is bridged between the candidate j and its neighbour n. As measured, the second test first is the faster order.
@@ -154,8 +147,5 @@ pub fn bridged(l: Limits, j: Break, k: Break, n: Break) -> bool
     requires { Three l j k n }
     ensures { result ≡ bridged_at l j k n }
 {
-    if !chord(l, j, k, n) {
-        return false;
-    }
-    edge(l, j, k, n)
+    chord(l, j, k, n) && edge(l, j, k, n)
 }

@@ -14,10 +14,9 @@ use Rattle.laws.specs.Cost.{Cost, none, some}
 use Rattle.laws.specs.Strip.{over, length_over}
 use Rattle.laws.specs.Outcome.{Promise, Is}
 use Rattle.paper.specs.declared.Refusal.{Refusal}
-use Rattle.paper.specs.declared.Answer.{Answer}
-use Rattle.paper.specs.declared.Answer.TheVariants.{Set, None, Refused}
-use Rattle.paper.specs.declared.Checked.{Checked}
-use Rattle.paper.specs.declared.Checked.TheVariants.{Accept, Refuse}
+use Rattle.paper.specs.Told.{Answer, set_answer, none_answer, refused_answer}
+use Rattle.paper.specs.Told.{Checked}
+use Rattle.std.specs.Prelude.{Ok, Err}
 use Rattle.paper.specs.Allowed.{most_words}
 use Rattle.paper.specs.Told.{told_refusal, checked, first_short}
 use Rattle.paper.specs.Strips.{sums}
@@ -27,8 +26,7 @@ use Rattle.refusals.specs.Accepted.{accepted}
 use Rattle.strips.specs.Words.{length_sums}
 use Rattle.job.specs.declared.Asked.{Asked}
 use Rattle.job.specs.declared.JobLimits.{JobLimits}
-use Rattle.job.specs.declared.Job.{Job}
-use Rattle.job.specs.declared.Job.TheVariants.{Read, Refused as JobRefused}
+use Rattle.job.specs.Reader.{JobAnswer, read_as}
 use Rattle.job.specs.Reader as Reader
 use Rattle.job.specs.Reader.{Reading, refuse, accept, reading, read_outcome}
 use Rattle.job.specs.Promise.{accepted_writes}
@@ -50,19 +48,19 @@ unfolding refusal
 told_row q t = rw (t.is_number, t.is_place)
 
 -- ---- the reader, which is lent a strip for as many lengths as there may be
-module _ (job : List ℕ) {r : Job} {t : List ℕ} (p : Promise Is (read_outcome job (replicate 4096 0)) r t) where
+module _ (job : List ℕ) {r : JobAnswer} {t : List ℕ} (p : Promise Is (read_outcome job (replicate 4096 0)) r t) where
   size : length {A = ℕ} (replicate 4096 0) ≡ most_words
   size = length-replicate {A = ℕ} 4096 0
 
-  pub unread_listed : {q : Refusal} → r ≡ JobRefused q → listing_of job ≡ refusal q
+  pub unread_listed : {q : Refusal} → r ≡ Err q → listing_of job ≡ refusal q
   unfolding listing_of read_outcome Reader.reading_outcome reading_listing
   unread_listed {q} e = rw (← size) (go (reading job (length {A = ℕ} (replicate 4096 0))) (sym e ∙ p.tells))
     where
-      go : (o : Reading) → JobRefused q ≡ (Reader.reading_outcome o (replicate 4096 0)).answer → reading_listing o ≡ refusal q
+      go : (o : Reading) → ◌≡◌ {A = JobAnswer} (Err q) ((Reader.reading_outcome o (replicate 4096 0)).answer) → reading_listing o ≡ refusal q
       go (refuse q') f = let z : q ≡ q' = cc in rw z
       go (accept limits ws) f = let z : ◌≡◌ {A = ℕ} 0 1 = cc in absurd (omega arith)
 
-  pub read_listed : {limits : JobLimits} {n : ℕ} → r ≡ Read limits n → listing_of job ≡ asked_listing limits.asked (take n t)
+  pub read_listed : {limits : JobLimits} {n : ℕ} → r ≡ read_as limits n → listing_of job ≡ asked_listing limits.asked (take n t)
   unfolding listing_of read_outcome reading_listing
   read_listed {limits} {n} e =
       let s : List ℕ = replicate 4096 0 in
@@ -91,7 +89,7 @@ roomy k (h ∷ hs) (n ∷ ns) r = when_true (leb n h) _ _ (le-leb n h r.0) ∙ r
 
 -- the sums and the answer strip, before and after a setting
 module _ (asked : Asked) (ws s p S P : List ℕ) (sums_room : most_words + 1 ≤ length s) (starts_room : most_words ≤ length p) where
-  set : (v : ℕ) → checked (holds asked) (space_in asked) ws [] [] ≡ Accept → least asked ws ≡ some v → S ≡ over (sums ws) s →
+  set : (v : ℕ) → checked (holds asked) (space_in asked) ws [] [] ≡ Ok tt → least asked ws ≡ some v → S ≡ over (sums ws) s →
       P ≡ over (starts asked ws) p →
       IsSet asked ws S P v (length (starts asked ws)) (move_count asked ws)
   unfolding asked_listing checked_listing cost_listing
@@ -104,13 +102,8 @@ module _ (asked : Asked) (ws s p S P : List ℕ) (sums_room : most_words + 1 ≤
       record {
         sums_room = omega (arith, ap length sums_over, length_over (sums ws) s (omega (arith, passed.few)), passed.few);
         starts_room = omega (arith, ap length starts_over, length_over (starts asked ws) p (omega (arith, passed.few, is.few)));
-        asks =
-            rw (sums_are, starts_are)
-            (record {
-              text = record { passed = passed; sums = refl };
-              starts = is.all;
-              room = record { fits = omega (arith, set_size asked ws passed v is) };
-            });
+        text = rw sums_are (record { passed = passed; sums = refl });
+        asks = rw starts_are (record { starts = is.all; room = record { fits = omega (arith, set_size asked ws passed v is) } });
         listing = rw (starts_are, pass, cost);
       }
 
@@ -118,15 +111,15 @@ module _ (asked : Asked) (ws s p S P : List ℕ) (sums_room : most_words + 1 ≤
 -- answer strip among them.
 module _ {Strips : Type 0} (asked : Asked) (ws : List ℕ) (sums_of starts_of : Strips → List ℕ) (lent : Strips) (has needs : List ℕ)
     (answer : Checked → Answer) (strips : Checked → Strips) (cost_answer : Cost → Answer)
-    (refuses : (r : Refusal) → answer (Refuse r) ≡ Refused r) (accepts : answer Accept ≡ cost_answer (least asked ws))
-    (none_is : cost_answer none ≡ None (move_count asked ws))
-    (some_is : (v : ℕ) → cost_answer (some v) ≡ Set v (length (starts asked ws)) (move_count asked ws))
-    (sums_over : (v : ℕ) → least asked ws ≡ some v → sums_of (strips Accept) ≡ over (sums ws) (sums_of lent))
-    (starts_over : (v : ℕ) → least asked ws ≡ some v → starts_of (strips Accept) ≡ over (starts asked ws) (starts_of lent))
+    (refuses : (r : Refusal) → answer (Err r) ≡ refused_answer r) (accepts : answer (Ok tt) ≡ cost_answer (least asked ws))
+    (none_is : cost_answer none ≡ none_answer (move_count asked ws))
+    (some_is : (v : ℕ) → cost_answer (some v) ≡ set_answer v (length (starts asked ws)) (move_count asked ws))
+    (sums_over : (v : ℕ) → least asked ws ≡ some v → sums_of (strips (Ok tt)) ≡ over (sums ws) (sums_of lent))
+    (starts_over : (v : ℕ) → least asked ws ≡ some v → starts_of (strips (Ok tt)) ≡ over (starts asked ws) (starts_of lent))
     (sums_room : most_words + 1 ≤ length (sums_of lent)) (starts_room : most_words ≤ length (starts_of lent))
     (room : length ws ≤ most_words → ListRoom has needs) where
-  at_cost : checked (holds asked) (space_in asked) ws [] [] ≡ Accept → (b : Cost) → least asked ws ≡ b →
-      Answered asked ws (sums_of (strips Accept)) (starts_of (strips Accept)) (cost_answer b)
+  at_cost : checked (holds asked) (space_in asked) ws [] [] ≡ Ok tt → (b : Cost) → least asked ws ≡ b →
+      Answered asked ws (sums_of (strips (Ok tt))) (starts_of (strips (Ok tt))) (cost_answer b)
   unfolding asked_listing checked_listing cost_listing
   at_cost g none h = rw (none_is, g, h)
   at_cost g (some v) h = rw (some_is v) (set asked ws _ _ _ _ sums_room starts_room v g h (sums_over v h) (starts_over v h))
@@ -134,8 +127,8 @@ module _ {Strips : Type 0} (asked : Asked) (ws : List ℕ) (sums_of starts_of : 
   at_checked : (c : Checked) → checked (holds asked) (space_in asked) ws [] [] ≡ c →
       Answered asked ws (sums_of (strips c)) (starts_of (strips c)) (answer c)
   unfolding asked_listing checked_listing
-  at_checked (Refuse r) g = rw (refuses r, g)
-  at_checked Accept g = rw accepts (at_cost g (least asked ws) refl)
+  at_checked (Err r) g = rw (refuses r, g)
+  at_checked (Ok tt) g = rw accepts (at_cost g (least asked ws) refl)
 
   pub answered : {a : Answer} {t : Strips} →
       a ≡ answer (checked (holds asked) (space_in asked) ws has needs) → t ≡ strips (checked (holds asked) (space_in asked) ws has needs) →

@@ -8,23 +8,23 @@ use borrow.Author.Tests.{le-leb, lt-leb}
 use lib.ListN.{length}
 use Rattle.laws.specs.Outcome.{Promise, Is}
 use Rattle.rows.specs.Puts.{Fits, Puts, puts_counted, puts_over}
-use Rattle.listing.specs.declared.Listed.TheVariants.{Written, Short}
+use Rattle.std.specs.Prelude.{Ok}
 use Rattle.listing.specs.Listing.{refused}
-use Rattle.listing.specs.Promise.{bytes_outcome}
+use Rattle.listing.specs.Promise.{short, bytes_outcome}
 use Rattle.listing.proofs.Size.{refused_size}
 
 module _ {bytes : List ℕ} {size : ℕ} {t : List ℕ} (s : List ℕ) (counted : Puts bytes 0 [] size t) where
   back : t ++ s ≡ s
   back = ap (λ (l : List ℕ). l ++ s) (puts_counted counted)
 
-  pub too_short : length (t ++ s) < size → Promise Is (bytes_outcome bytes s) (Short size) (t ++ s)
+  pub too_short : length (t ++ s) < size → Promise Is (bytes_outcome bytes s) (short size) (t ++ s)
   unfolding bytes_outcome
   too_short h =
       let e : size ≡ length bytes = omega (arith, counted.place) in
       rw (back, lt-leb (length bytes) (length s) (omega (arith, ap length back)), e) (record { tells = refl; strips = refl })
 
   pub all_written : size ≤ length (t ++ s) → {next : ℕ} {u : List ℕ} →
-      Puts bytes 0 (t ++ s) next u → Promise Is (bytes_outcome bytes s) (Written size) u
+      Puts bytes 0 (t ++ s) next u → Promise Is (bytes_outcome bytes s) (Ok size) u
   unfolding bytes_outcome
   all_written h p =
       let e : size ≡ length bytes = omega (arith, counted.place) in

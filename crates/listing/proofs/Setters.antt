@@ -6,7 +6,7 @@ use native.Mathlib.Omega.{arith}
 use lib.ListN.{length, replicate, length-replicate}
 use Rattle.paper.specs.declared.Limits.{Limits}
 use Rattle.paper.specs.declared.PageLimits.{PageLimits}
-use Rattle.paper.specs.declared.Answer.{Answer}
+use Rattle.paper.specs.Told.{Answer}
 use Rattle.paper.specs.Strips.{ParagraphStrips, paragraph_strips, paragraph_has, paragraph_needs}
 use Rattle.paper.specs.Strips.{paragraph_written, paragraph_set, paragraph_checked, paragraph_outcome}
 use Rattle.paper.specs.Strips.{IndexStrips, index_strips, index_has, index_needs, index_written, index_set, index_checked, index_outcome}

@@ -5,8 +5,8 @@ use Rattle.laws.specs.Cost.{Cost, none, some}
 use Rattle.laws.specs.Outcome.{Promise, Is}
 use Rattle.paper.specs.declared.Refusal.{Refusal}
 use Rattle.paper.specs.declared.Refusal.TheVariants.{Empty, Many, Limits as BadLimits, Length, Room, Job as Malformed}
-use Rattle.paper.specs.declared.Checked.{Checked}
-use Rattle.paper.specs.declared.Checked.TheVariants.{Accept, Refuse}
+use Rattle.paper.specs.Told.{Checked}
+use Rattle.std.specs.Prelude.{Ok, Err}
 use Rattle.paper.specs.Allowed.{most_words, length_holds, Passed}
 use Rattle.paper.specs.Paragraph.{end}
 use Rattle.paper.specs.Told.{told_refusal, checked, first_failing, first_short}
@@ -20,8 +20,7 @@ use Rattle.rows.specs.Rows.{ascii}
 use Rattle.rows.specs.Digits.{digits_width}
 use Rattle.rows.specs.Size.{row_one, row_two}
 use Rattle.rows.specs.Puts.{sizes}
-use Rattle.listing.specs.declared.Listed.{Listed}
-use Rattle.listing.specs.declared.Listed.TheVariants.{Written}
+use Rattle.listing.specs.Promise.{Listed}
 use Rattle.listing.specs.Listing.{refused, refusal, holds, space_in, least, starts, move_count, headed, head, start_row, start_rows}
 use Rattle.listing.specs.Listing.{moves_row, cost_listing, checked_listing, asked_listing, reading_listing, listing_of}
 use Rattle.listing.specs.Asks.{Segments}
@@ -116,8 +115,8 @@ failing_within ok k (w ∷ ws) = go (ok w) (failing_within ok (suc k) ws)
     go false h = omega arith
 
 abbrev PlaceFew : Checked → Type 0
-PlaceFew Accept = Unit {0}
-PlaceFew (Refuse r) = (told_refusal r).place < 10 ^ 5
+PlaceFew (Ok _) = Unit {0}
+PlaceFew (Err r) = (told_refusal r).place < 10 ^ 5
 
 checked_few : (hold : Bool) (space : ℕ) (ws : List ℕ) → PlaceFew (checked hold space ws [] [])
 unfolding checked first_short told_refusal
@@ -139,8 +138,8 @@ asked_size asked ws = checked_size (checked (holds asked) (space_in asked) ws []
 
     checked_size : (c : Checked) → checked (holds asked) (space_in asked) ws [] [] ≡ c → PlaceFew c →
         length (checked_listing asked ws c) ≤ most_bytes
-    checked_size (Refuse r) e p = omega (arith, refusal_size r p)
-    checked_size Accept e p = cost_size (accepted (holds asked) (space_in asked) ws [] [] e).passed (least asked ws) refl
+    checked_size (Err r) e p = omega (arith, refusal_size r p)
+    checked_size (Ok tt) e p = cost_size (accepted (holds asked) (space_in asked) ws [] [] e).passed (least asked ws) refl
 
 reading_size : (o : Reading) → Within most_words o → length (reading_listing o) ≤ most_bytes
 unfolding reading_listing
@@ -154,5 +153,5 @@ listing_size job = reading_size (reading job most_words) (reading_within job mos
 -- A buffer of so many bytes always gets the listing.
 pub always_written : (job s : List ℕ) {r : Listed} {t : List ℕ} → most_bytes ≤ length s →
     Promise Is (bytes_outcome (listing_of job) s) r t →
-    r ≡ Written (length (listing_of job))
+    r ≡ Ok (length (listing_of job))
 always_written job s room p = (with_room (listing_of job) s p (omega (arith, listing_size job))).0

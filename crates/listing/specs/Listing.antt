@@ -2,8 +2,8 @@
 use Rattle.std.specs.Prelude.{ℕ, Bool, List, [], ◌∷◌, ◌++◌, length, get_or}
 use Rattle.laws.specs.Cost.{Cost, none, some}
 use Rattle.paper.specs.declared.Refusal.{Refusal}
-use Rattle.paper.specs.declared.Checked.{Checked}
-use Rattle.paper.specs.declared.Checked.TheVariants.{Accept, Refuse}
+use Rattle.paper.specs.Told.{Checked}
+use Rattle.std.specs.Prelude.{Ok, Err}
 use Rattle.paper.specs.Allowed.{most_words, limits_hold, page_limits_hold}
 use Rattle.paper.specs.Paragraph as Paragraph
 use Rattle.paper.specs.Paragraph.{end, line_length, charge}
@@ -80,8 +80,8 @@ cost_listing asked ws none = refused 6 0
 cost_listing asked ws (some total) = set_rows asked ws (starts asked ws) total (move_count asked ws)
 
 unfoldable pub checked_listing : Asked → List ℕ → Checked → List ℕ
-checked_listing asked ws (Refuse r) = refusal r
-checked_listing asked ws Accept = cost_listing asked ws (least asked ws)
+checked_listing asked ws (Err r) = refusal r
+checked_listing asked ws (Ok _) = cost_listing asked ws (least asked ws)
 
 -- No strip is too short: refusals 1 to 4, and then NONE or the setting.
 unfoldable pub asked_listing : Asked → List ℕ → List ℕ

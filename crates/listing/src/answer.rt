@@ -6,102 +6,87 @@ ghost use Rattle.listing.specs.Listing.{set_rows, asked_listing};
 ghost use Rattle.listing.specs.Asks.{RowsAsk, Answered};
 ghost use Rattle.listing.specs.Promise.{bytes_outcome};
 
-use crate::Listed;
+use crate::Short;
 use crate::heading::head;
-use crate::refusal::refused;
-use crate::starts::start_rows;
+use crate::text::Text;
+use crate::whole::{Put, whole};
 use job::Asked;
-use paper::{Answer, Limits, PageLimits};
-use refusals::{Reason, told_refusal};
-use rows::named;
+use paper::{Limits, PageLimits, Set, Unset};
+use refusals::Reason;
+use rows::Rows;
 use setter::{set_index, set_paragraph};
 
-// Puts all rows of a setting. Answers how many bytes they have.
-fn set_rows(
-    asked: Asked,
-    lengths: &[u32],
-    sums: &[u32],
-    starts: &[u32],
+// The rows of a setting.
+#[derive(Clone, Copy)]
+struct SetRows<'a> {
+    text: Text<'a>,
+    starts: &'a [u32],
     total: u64,
     moves: usize,
-    out: &mut [u8],
-) -> usize
-    requires { RowsAsk asked lengths.now sums.now starts.now total moves }
-    ensures { Puts (set_rows asked lengths.now starts.now total moves)
-        0 out.old result out.new }
-{
-    let at = head(asked, lengths.len(), total, starts.len(), out);
-    let next = start_rows(asked, lengths, sums, starts, out, at);
-    named(out, next, b"moves", &[moves as u64])
+    ghost asks: { RowsAsk text.asked text.lengths.now starts.now total moves },
 }
 
-// Lists a setting: the rows are put first on no buffer, to count their bytes.
-fn list_set(
-    asked: Asked,
-    lengths: &[u32],
-    sums: &[u32],
-    starts: &[u32],
-    total: u64,
-    moves: usize,
-    out: &mut [u8],
-) -> Listed
-    requires { RowsAsk asked lengths.now sums.now starts.now total moves }
-    ensures { Promise Is
-        (bytes_outcome (set_rows asked lengths.now starts.now total moves) out.old)
-        result out.new }
-{
-    let size = set_rows(asked, lengths, sums, starts, total, moves, &mut out[..0]);
-    if out.len() < size {
-        return Listed::Short(size);
+impl Put for SetRows<'_> {
+    ghost bytes = { λ s. set_rows s.text.asked s.text.lengths.now s.starts.now s.total s.moves };
+
+    fn put(&self, out: &mut [u8]) -> usize {
+        let mut rows = Rows { out, at: 0 };
+        head(
+            &mut rows,
+            self.text.asked,
+            self.text.lengths.len(),
+            self.total,
+            self.starts.len(),
+        );
+        self.text.start_rows(self.starts, &mut rows);
+        rows.named(b"moves", &[self.moves as u64]);
+        rows.at
     }
-    set_rows(asked, lengths, sums, starts, total, moves, out);
-    Listed::Written(size)
 }
 
 // Lists the setting, or the refusal.
-fn list_answer(
+fn list_answer<'a>(
     asked: Asked,
-    lengths: &[u32],
-    sums: &[u32],
-    starts: &[u32],
-    answer: Answer,
+    lengths: &'a [u32],
+    sums: &'a [u32],
+    starts: &'a [u32],
+    answer: Result<Set, Unset>,
     out: &mut [u8],
-) -> Listed
+) -> Result<usize, Short>
     requires { Answered asked lengths.now sums.now starts.now answer }
     ensures { Promise Is
         (bytes_outcome (asked_listing asked lengths.now) out.old)
         result out.new }
 {
     match answer {
-        Answer::Set {
-            total,
-            lines,
-            moves,
-        } => {
+        Ok(set) => {
             let n = lengths.len();
-            list_set(
+            let text = Text {
                 asked,
                 lengths,
-                &sums[..n + 1],
-                &starts[..lines],
-                total,
-                moves,
-                out,
-            )
+                sums: &sums[..n + 1],
+            };
+            let rows = SetRows {
+                text,
+                starts: &starts[..set.lines],
+                total: set.total,
+                moves: set.moves,
+            };
+            whole(&rows, out)
         }
-        Answer::None { moves: _ } => {
+        Err(Unset::None { moves: _ }) => {
             let none = Reason {
                 number: 6,
                 place: 0,
             };
-            refused(none, out)
+            whole(&none, out)
         }
-        Answer::Refused(r) => refused(told_refusal(r), out),
+        Err(Unset::Refused(r)) => whole(&Reason::from(r), out),
     }
 }
 
 // Lists a paragraph.
-fn list_paragraph(l: Limits, lengths: &[u32], out: &mut [u8]) -> Listed
+fn list_paragraph(l: Limits, lengths: &[u32], out: &mut [u8]) -> Result<usize, Short>
     ensures { Promise Is
         (bytes_outcome (asked_listing (Paragraph l) lengths.now) out.old)
         result out.new }
@@ -126,7 +111,7 @@ fn list_paragraph(l: Limits, lengths: &[u32], out: &mut [u8]) -> Listed
 }
 
 // Lists an index.
-fn list_index(l: PageLimits, lengths: &[u32], out: &mut [u8]) -> Listed
+fn list_index(l: PageLimits, lengths: &[u32], out: &mut [u8]) -> Result<usize, Short>
     ensures { Promise Is
         (bytes_outcome (asked_listing (Index l) lengths.now) out.old)
         result out.new }
@@ -153,7 +138,7 @@ fn list_index(l: PageLimits, lengths: &[u32], out: &mut [u8]) -> Listed
 }
 
 // Lists what is asked.
-pub fn list_asked(asked: Asked, lengths: &[u32], out: &mut [u8]) -> Listed
+pub fn list_asked(asked: Asked, lengths: &[u32], out: &mut [u8]) -> Result<usize, Short>
     ensures { Promise Is
         (bytes_outcome (asked_listing asked lengths.now) out.old)
         result out.new }

@@ -1,38 +1,53 @@
 // The rows that stand first in a listing.
 ghost use Rattle.std.specs.Prelude.{[], ◌∷◌};
 ghost use Rattle.rows.specs.Rows.{row};
-ghost use Rattle.rows.specs.Puts.{Fits, Puts};
+ghost use Rattle.rows.specs.Puts.{Fits};
+ghost use Rattle.rows.specs.Writes.{Writes};
 ghost use Rattle.listing.specs.Listing.{headed, head};
 
 use job::Asked;
-use rows::named;
+use rows::Rows;
 
-// What is listed and n, the name of the total and the total, the name of the starts and their count.
-fn heading(
-    out: &mut [u8],
-    kind: &[u8],
-    n: usize,
-    cost: &[u8],
-    total: u64,
-    starts: &[u8],
-    count: usize,
-) -> usize
-    requires { Fits 0 (row kind.now (n ∷ []) ∷ row cost.now (total ∷ []) ∷ row starts.now (count ∷ []) ∷ []) }
-    ensures { Puts (headed kind.now n cost.now total starts.now count)
-        0 out.old result out.new }
+// What is listed, and what its total and its starts are called.
+#[derive(Clone, Copy)]
+struct Words<'a> {
+    kind: &'a [u8],
+    total: &'a [u8],
+    starts: &'a [u8],
+}
+
+// What is listed and n, the total, and the count of the starts, each after its word.
+fn heading(rows: &mut Rows, words: Words, n: usize, total: u64, count: usize)
+    requires { Fits rows.old.at (row words.kind.now (n ∷ []) ∷ row words.total.now (total ∷ []) ∷ row words.starts.now (count ∷ []) ∷ []) }
+    ensures { Writes (headed words.entry.kind.now n words.entry.total.now total words.entry.starts.now count)
+        rows.old rows.new }
 {
-    let next = named(out, 0, kind, &[n as u64]);
-    let after = named(out, next, cost, &[total]);
-    named(out, after, starts, &[count as u64])
+    rows.named(words.kind, &[n as u64]);
+    rows.named(words.total, &[total]);
+    rows.named(words.starts, &[count as u64]);
 }
 
 // The same in the words for what is asked.
-pub fn head(asked: Asked, n: usize, total: u64, count: usize, out: &mut [u8]) -> usize
-    requires { Fits 0 (head asked n total count ∷ []) }
-    ensures { Puts (head asked n total count) 0 out.old result out.new }
+pub fn head(rows: &mut Rows, asked: Asked, n: usize, total: u64, count: usize)
+    requires { Fits rows.old.at (head asked n total count ∷ []) }
+    ensures { Writes (head asked n total count) rows.old rows.new }
 {
     match asked {
-        Asked::Paragraph(_) => heading(out, b"paragraph", n, b"penalty", total, b"lines", count),
-        Asked::Index(_) => heading(out, b"index", n, b"keys", total, b"boundaries", count),
+        Asked::Paragraph(_) => {
+            let words = Words {
+                kind: b"paragraph",
+                total: b"penalty",
+                starts: b"lines",
+            };
+            heading(rows, words, n, total, count)
+        }
+        Asked::Index(_) => {
+            let words = Words {
+                kind: b"index",
+                total: b"keys",
+                starts: b"boundaries",
+            };
+            heading(rows, words, n, total, count)
+        }
     }
 }

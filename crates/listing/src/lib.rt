@@ -6,31 +6,33 @@ mod answer;
 mod heading;
 mod refusal;
 mod starts;
+mod text;
+mod whole;
 
 ghost use Rattle.listing.specs.Listing.{listing_of};
 ghost use Rattle.listing.specs.Promise.{bytes_outcome};
 ghost use Rattle.laws.specs.Outcome.{Promise, Is};
 
 use answer::list_asked;
-use job::{Job, read};
-use refusal::{refused, told_job};
+use job::read;
+use refusal::told_job;
+use whole::whole;
 
-// The listing's bytes stand at the front of the buffer, so many of them; or the buffer is too short for so many and unchanged.
-#[derive(Clone, Copy)]
-pub enum Listed {
-    Written(usize),
-    Short(usize),
+// The buffer is too short for a listing of so many bytes, and unchanged.
+#[derive(Clone, Copy, Debug, PartialEq, Eq)]
+pub struct Short {
+    pub bytes: usize,
 }
 
-// Lists a job: reads it, sets what it asks for, and writes the listing of the setting or of the refusal.
-pub fn list(job: &[u8], out: &mut [u8]) -> Listed
+// Lists a job: reads it, sets what it asks for, and writes the listing of the setting or of the refusal. The listing's bytes stand at the
+// front of the buffer, so many of them.
+pub fn list(job: &[u8], out: &mut [u8]) -> Result<usize, Short>
     ensures { Promise Is (bytes_outcome (listing_of job.now) out.old) result out.new }
 {
     let mut lengths = [0u32; 4096];
     let answer = read(job, &mut lengths);
-    let Job::Read(limits, n) = answer else {
-        return refused(told_job(answer), out);
+    let Ok(given) = answer else {
+        return whole(&told_job(answer), out);
     };
-    let asked = limits.asked;
-    list_asked(asked, &lengths[..n], out)
+    list_asked(given.limits.asked, &lengths[..given.n], out)
 }

@@ -5,34 +5,33 @@ ghost use Rattle.listing.specs.Promise.{bytes_outcome};
 ghost use Rattle.laws.specs.Outcome.{Promise, Is};
 ghost use Rattle.refusals.specs.Tells.{Tells};
 
-use crate::Listed;
+use crate::whole::Put;
 use job::Job;
-use refusals::{Reason, told_refusal};
-use rows::named;
+use paper::Refusal;
+use refusals::Reason;
+use rows::Rows;
 
 // Of the reader's answer; 0 where the job is read.
-pub fn told_job(j: Job) -> Reason
+pub fn told_job(j: Result<Job, Refusal>) -> Reason
     ensures { Tells (told_job j).number (told_job j).place result }
 {
     match j {
-        Job::Read(_, _) => Reason {
+        Ok(_) => Reason {
             number: 0,
             place: 0,
         },
-        Job::Refused(r) => told_refusal(r),
+        Err(r) => Reason::from(r),
     }
 }
 
-pub fn refused(reason: Reason, out: &mut [u8]) -> Listed
-    ensures { Promise Is (bytes_outcome (refused_row reason.number reason.place) out.old) result out.new }
-{
-    let number = reason.number as u64;
-    let place = reason.place as u64;
-    let numbers = [number, place];
-    let size = named(&mut out[..0], 0, b"refused", &numbers);
-    if out.len() < size {
-        return Listed::Short(size);
+impl Put for Reason {
+    ghost bytes = { λ r. refused_row r.number r.place };
+
+    fn put(&self, out: &mut [u8]) -> usize {
+        let Reason { number, place } = *self;
+        let numbers = [u64::from(number), place as u64];
+        let mut rows = Rows { out, at: 0 };
+        rows.named(b"refused", &numbers);
+        rows.at
     }
-    named(out, 0, b"refused", &numbers);
-    Listed::Written(size)
 }

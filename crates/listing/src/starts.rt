@@ -1,17 +1,17 @@
 // The rows of a setting's starts: a paragraph's lines, an index's boundaries.
 ghost use Rattle.std.specs.Prelude.{◌≡◌, ◌+◌, ◌<◌, length, get_or};
-ghost use Rattle.rows.specs.Puts.{Puts};
+ghost use Rattle.rows.specs.Writes.{Writes};
 ghost use Rattle.listing.specs.Listing.{start_row, start_rows};
 ghost use Rattle.listing.specs.Asks.{LineAsks, LineIs, SegmentAsks, SegmentsAsk};
 
+use crate::text::Text;
 use job::Asked;
 use lines::{line_length, penalty};
 use paper::Limits;
-use rows::numbered;
-use strips::{long, wide};
+use rows::Rows;
 
 // A line's length, and what it costs.
-#[derive(Clone, Copy)]
+#[derive(Clone, Copy, Debug, PartialEq, Eq)]
 struct LineRow {
     length: u64,
     cost: u64,
@@ -25,35 +25,13 @@ fn measured(l: Limits, lengths: &[u32], sums: &[u32], i: usize, j: usize) -> Lin
     let x = line_length(l, sums, i, j);
     if j == lengths.len() + 1 && x <= l.lopt {
         return LineRow {
-            length: long(x),
+            length: u64::from(x),
             cost: 0,
         };
     }
     LineRow {
-        length: long(x),
+        length: u64::from(x),
         cost: penalty(l, x),
-    }
-}
-
-// Puts the row of the start i, whose next is j.
-fn start_row(
-    asked: Asked,
-    lengths: &[u32],
-    sums: &[u32],
-    i: usize,
-    j: usize,
-    out: &mut [u8],
-    at: usize,
-) -> usize
-    requires { SegmentAsks asked lengths.now sums.now i j at }
-    ensures { Puts (start_row asked lengths.now i j) at out.old result out.new }
-{
-    match asked {
-        Asked::Paragraph(l) => {
-            let m = measured(l, lengths, sums, i, j);
-            numbered(out, at, i as u64, &[m.length, m.cost])
-        }
-        Asked::Index(_) => numbered(out, at, i as u64, &[long(lengths[i - 1])]),
     }
 }
 
@@ -62,33 +40,36 @@ fn next_start(starts: &[u32], k: usize, end: usize) -> usize
     requires { k < length starts.now }
     ensures { result ≡ get_or starts.now (k + 1) end }
 {
-    let next = k + 1;
-    if next < starts.len() {
-        return wide(starts[next]);
+    match starts.get(k + 1) {
+        Some(next) => *next as usize,
+        None => end,
     }
-    end
 }
 
-// Puts the rows of all starts.
-pub fn start_rows(
-    asked: Asked,
-    lengths: &[u32],
-    sums: &[u32],
-    starts: &[u32],
-    out: &mut [u8],
-    at: usize,
-) -> usize
-    requires { SegmentsAsk asked lengths.now sums.now starts.now at }
-    ensures { Puts (start_rows asked lengths.now starts.now) at out.old result out.new }
-{
-    let end = lengths.len() + 1;
-    let mut next = at;
-    let mut k = 0;
-    while k < starts.len() {
-        let i = wide(starts[k]);
-        let j = next_start(starts, k, end);
-        next = start_row(asked, lengths, sums, i, j, out, next);
-        k += 1;
+impl Text<'_> {
+    // Puts the row of the start i, whose next is j.
+    fn start_row(&self, i: usize, j: usize, rows: &mut Rows)
+        requires { SegmentAsks self.now.asked self.now.lengths.now i j rows.old.at }
+        ensures { Writes (start_row self.now.asked self.now.lengths.now i j) rows.old rows.new }
+    {
+        match self.asked {
+            Asked::Paragraph(l) => {
+                let m = measured(l, self.lengths, self.sums, i, j);
+                rows.numbered(i as u64, &[m.length, m.cost])
+            }
+            Asked::Index(_) => rows.numbered(i as u64, &[u64::from(self.lengths[i - 1])]),
+        }
     }
-    next
+
+    // Puts the rows of all starts.
+    pub fn start_rows(&self, starts: &[u32], rows: &mut Rows)
+        requires { SegmentsAsk self.now.asked self.now.lengths.now starts.now rows.old.at }
+        ensures { Writes (start_rows self.now.asked self.now.lengths.now starts.now) rows.old rows.new }
+    {
+        let end = self.lengths.len() + 1;
+        for (k, start) in starts.iter().enumerate() {
+            let j = next_start(starts, k, end);
+            self.start_row(*start as usize, j, rows);
+        }
+    }
 }

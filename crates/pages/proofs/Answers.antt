@@ -4,24 +4,24 @@ use mathlib.Core.Path.{◌≡◌, refl, ap, sym, subst, ◌∙◌}
 use mathlib.Core.List.{List, [], ◌∷◌}
 use native.Mathlib.Omega.{arith}
 use lib.ListN.{length, get_or}
-use Rattle.laws.specs.Cost.{Cost, none, some, has_some}
+use Rattle.laws.specs.Cost.{none, some, has_some}
 use Rattle.laws.specs.Search.{largest}
 use Rattle.laws.specs.Strip.{over, over_nil, length_over, append_nil}
 use Rattle.laws.specs.Chosen.{next}
 use Rattle.paper.specs.declared.PageLimits.{PageLimits}
-use Rattle.paper.specs.declared.Answer.TheVariants.{Set, None}
+use Rattle.paper.specs.Told.{set_answer, none_answer}
 use Rattle.paper.specs.Paragraph.{end}
 use Rattle.paper.specs.Index as Index
 use Rattle.paper.specs.Index.{index}
-use Rattle.paper.specs.Strips.{best_entry, IndexStrips, index_strips, index_written, index_set}
+use Rattle.paper.specs.Strips.{IndexStrips, index_strips, index_written, index_set}
 use Rattle.paper_theory.specs.Cheapest.{chosen_index}
 use Rattle.pointer_theory.proofs.Numbers.{best_none}
 use Rattle.strips.specs.Asks.{FollowAsk, Followed}
 use Rattle.strips.specs.Chain.{next_in, chain, LeadsOn, leads_rises, leads_on, chain_later, chosen_leads}
 use Rattle.strips.specs.Filling.{length_ended, entry_read}
 use Rattle.pointer.specs.Held.{best_at}
-use Rattle.pointer.specs.Asks.{PointerStrips}
-use Rattle.pages.specs.Asks.{bests_of, nexts_of, start_strips, PageFilled, PageAsk, Paged}
+use Rattle.pointer.proofs.Settles.{entry_some}
+use Rattle.pages.specs.Asks.{PointerStrips, bests_of, nexts_of, start_strips, PageFilled, PageAsk, Paged}
 
 module _ {l : PageLimits} {ws : List ℕ} {s : IndexStrips} (a : PageAsk l ws s) {taken : ℕ} {S : List ℕ} {t : PointerStrips}
     (d : PageFilled l ws s.sums (start_strips s) taken S t) where
@@ -36,7 +36,7 @@ module _ {l : PageLimits} {ws : List ℕ} {s : IndexStrips} (a : PageAsk l ws s)
   total = entry_read (best_at l ws) 0 (length ws + 2) [] (bests_of l ws) s.best t.best d.best (sym (append_nil (bests_of l ws)))
       0 0 (omega arith) (omega arith)
 
-  pub page_none : get_or t.best 0 0 ≡ 2 ^ 64 - 1 → Paged l ws s (None taken) (exit s.boundaries)
+  pub page_none : get_or t.best 0 0 ≡ 2 ^ 64 - 1 → Paged l ws s (none_answer taken) (exit s.boundaries)
   unfolding index_set
   page_none e =
       let f : Index.best l ws 0 ≡ none = best_none l ws a.fill.passed 0 (omega arith) (omega (arith, total)) in
@@ -60,12 +60,7 @@ module _ {l : PageLimits} {ws : List ℕ} {s : IndexStrips} (a : PageAsk l ws s)
 
   module _ (has : ¬ (get_or t.best 0 0 ≡ 2 ^ 64 - 1)) where
     best_is : Index.best l ws 0 ≡ some (get_or t.best 0 0)
-    unfolding best_entry
-    best_is = go (Index.best l ws 0) refl total
-      where
-        go : (c : Cost) → Index.best l ws 0 ≡ c → get_or t.best 0 0 ≡ best_entry c → Index.best l ws 0 ≡ some (get_or t.best 0 0)
-        go none e f = absurd (has f)
-        go (some v) e f = e ∙ ap some (sym f)
+    best_is = entry_some (Index.best l ws 0) total has
 
     -- the nexts lead on from 0
     leads : LeadsOn t.next 0 (length ws) 0
@@ -87,7 +82,7 @@ module _ {l : PageLimits} {ws : List ℕ} {s : IndexStrips} (a : PageAsk l ws s)
       }
 
       pub page_some : {Z : List ℕ} {found : ℕ} → Followed (chain t.next 0 (length ws) w) s.boundaries Z found →
-          Paged l ws s (Set (get_or t.best 0 0) found taken) (exit Z)
+          Paged l ws s (set_answer (get_or t.best 0 0) found taken) (exit Z)
       unfolding index_set Index.boundaries
       page_some {Z} f =
           let e : w ≡ Index.chosen_next l ws 0 = first ∙ next_is 0 (omega arith) (omega arith) in

@@ -1,3 +1,4 @@
 pub mod Paging
+pub mod PagingEnds
 pub mod Parts
 pub mod Answers

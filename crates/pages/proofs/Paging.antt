@@ -1,189 +1,102 @@
 -- One turn of the loop over the starts, from n down to 0. Assumes nothing.
-use Prim.Native.Nat.{ℕ, suc, ◌+◌, ◌-◌, ◌*◌, ◌≤◌, ◌<◌}
-use mathlib.Core.Path.{◌≡◌, refl, ap, sym, subst, ◌∙◌}
-use mathlib.Core.List.{List}
-use native.Mathlib.Omega.{arith}
-use borrow.Rule.Slice.PartMut.{put_mid}
-use lib.ListN.{length, take, drop, set, replicate, length-replicate, length-drop, length-set}
-use Rattle.laws.specs.Strip.{over, over_all, onward_zero, onward_nil, lent_is}
+use Rattle.std.proofs.Common.{◌≡◌, ap, subst, ℕ, suc, ◌+◌, ◌-◌, ◌*◌, ◌≤◌, List, length, take, drop, arith, length-take, length-drop}
 use Rattle.paper.specs.declared.PageLimits.{PageLimits}
 use Rattle.paper.specs.Allowed.{page_limits_hold}
 use Rattle.paper.specs.Index as Index
 use Rattle.paper.specs.Moves.{Taken, joined}
-use Rattle.paper.specs.PointerRules.{pages_of, Pointing, at_start, after_starts, pointer_moves}
-use Rattle.paper.specs.Strips.{entries}
+use Rattle.paper.specs.PointerRules.{pages_of, Pointing, after_starts}
 use Rattle.pointer_theory.specs.Ready.{PointerReady}
 use Rattle.pointer_theory.proofs.Ready.{ready_at}
-use Rattle.pointer_theory.proofs.Entries.{left_is, right_is}
 use Rattle.pointer_theory.proofs.Count.{starts_count}
-use Rattle.strips.specs.declared.Reached.{Reached}
-use Rattle.strips.specs.Filling.{Entered, entered_first, entered_more, entered_all, entered_whole}
+use Rattle.strips.specs.Filling.{Entered, entered_more}
+use Rattle.strips.specs.Words.{words_of, Holds}
+use Rattle.pointer.specs.Held.{PageBests, bests_more}
+use Rattle.pointer.specs.declared.start.Start.{Start}
+use Rattle.pointer.specs.Asks.{StartStrips, pointing, text_of, starting, ApplyAsk, Applied}
+use Rattle.pointer.proofs.Gaps.{start_size}
+use Rattle.pointer.specs.declared.Came.{Came}
 use Rattle.strips.specs.Running.{Ran, ran_length, ran_lent, joined_room, joined_ran}
-use Rattle.strips.specs.Words.{words_of, Holds, holds_length}
-use Rattle.pointer.specs.Held.{best_at, PageBests, best_end, bests_size, bests_more}
-use Rattle.pointer.specs.Asks.{PointerStrips, pointer_strips, pointing, PointerStartAsk, PointerStarted}
-use Rattle.pages.specs.Asks.{PageSized, PageStartsAsk, PageStarts}
+use borrow.Rule.Slice.PartMut.{put_mid}
 
 -- what stands once the starts down to i are done
 abbrev pub so_far : PageLimits → List ℕ → ℕ → Taken Pointing
 so_far l ws i = after_starts (pages_of l ws) (length ws) (length ws + 1 - i)
 
 -- the starts down to i are done
-pub record Paging (l : PageLimits) (S m : List ℕ) (t : PointerStrips) (i r count : ℕ) : Type 0 where
+pub record Paging (l : PageLimits) (S m₀ m : List ℕ) (taken : ℕ) (t : StartStrips) (i r : ℕ) : Type 0 where
   pub held : Holds (page_limits_hold l) 0 S
   pub low : i ≤ length S
-  pub room : 2 * length (words_of S) ≤ length m
-  pub ran : Ran (so_far l (words_of S) i) 0 m t.moves count (pointing r t)
+  pub room : 2 * length (words_of S) ≤ length m₀
+  pub ran : Ran (so_far l (words_of S) i) 0 m₀ m taken (pointing r t)
   pub bests : PageBests l (words_of S) t.best i
   pub nexts : Entered (Index.chosen_next l (words_of S)) 0 (length (words_of S)) i t.next
-  pub sized : PageSized S t
 
--- the next start is ready, and each strip is as long as the entries used
-module _ (l : PageLimits) {S m : List ℕ} (t : PointerStrips) {i r count : ℕ} (held : Holds (page_limits_hold l) 0 S) (low : i ≤ length S)
-    (ran : Ran (so_far l (words_of S) i) 0 m t.moves count (pointing r t)) where
-  ready_next : PointerReady l (words_of S) (i - 1) (pointing r t)
-  ready_next =
-      let size = holds_length held in
-      subst (PointerReady l (words_of S) (i - 1)) ran.stands
-      (ready_at l (words_of S) (length (words_of S) + 1 - i) (i - 1) (omega arith))
+-- ---- the moves taken so far
+module _ {l : PageLimits} {S m₀ m : List ℕ} {taken : ℕ} {t : StartStrips} {i r : ℕ} (g : Paging l S m₀ m taken t i r) where
+  taken_fit : taken ≤ length m₀
+  taken_fit = omega (arith, starts_count l (words_of S) (length (words_of S) + 1 - i), g.ran.count, g.room)
 
-  sizes : PageBests l (words_of S) t.best i → Entered (Index.chosen_next l (words_of S)) 0 (length (words_of S)) i t.next → PageSized S t
-  sizes bests nexts =
-      let size = holds_length held in
-      let next = ready_next.entries in
-      record { best = omega (arith, bests_size bests); next = omega (arith, nexts.size); left = omega arith; right = omega arith }
+  pub paging_length : length m ≡ length m₀
+  paging_length = ran_length (so_far l (words_of S) i) 0 m₀ m taken (pointing r t) g.ran taken_fit
 
--- ---- before the first
-cleared : (n e : ℕ) (L M : List ℕ) → e ≡ n + 1 → length L ≡ e + 1 → M ≡ over (replicate (e + 1) 0) L → M ≡ replicate (n + 2) 0
-cleared n e L M f size is =
-    let z : e + 1 ≡ n + 2 = omega arith in
-    is ∙ over_all (replicate (e + 1) 0) L (omega (arith, length-replicate {A = ℕ} (e + 1) 0)) ∙ ap (λ (k : ℕ). replicate k 0) z
+  pub paging_began : taken ≤ length m
+  paging_began = omega (arith, taken_fit, paging_length)
 
-pub paging_first : {l : PageLimits} {S : List ℕ} {s : PointerStrips} → PageStartsAsk l S s → {L R : List ℕ} →
-    L ≡ over (replicate (length S + 1) 0) s.left → R ≡ over (replicate (length S + 1) 0) s.right →
-    Paging l S s.moves (pointer_strips (set s.best (length S) 0) (set s.next (length S) 0) L R s.moves) (length S) (length S) 0
-unfolding after_starts
-paging_first {l} {S} {s} a {L} {R} left right =
-    let n : ℕ = length (words_of S) in
-    let e : length S ≡ n + 1 = holds_length a.held in
-    let z : n + 1 - length S ≡ 0 = omega arith in
-    let lefts = cleared n (length S) s.left L e a.sized.left left in
-    let rights = cleared n (length S) s.right R e a.sized.right right in
-    record {
-      held = a.held;
-      low = omega arith;
-      room = omega (arith, a.moves);
-      ran = rw (z, lefts, rights, e) (record { moves = sym (onward_nil 0 s.moves (omega arith)); count = refl; stands = refl });
-      bests = record {
-        passed = a.held.passed;
-        entered = rw e (entered_first s.best (n + 1) (omega (arith, a.sized.best)) (omega arith));
-      };
-      nexts = rw e (entered_first s.next (n + 1) (omega (arith, a.sized.next)) (omega arith));
-      sized = record {
-        best = length-set s.best (length S) 0 ∙ a.sized.best;
-        next = length-set s.next (length S) 0 ∙ a.sized.next;
-        left = ap length lefts ∙ length-replicate {A = ℕ} (n + 2) 0 ∙ omega arith;
-        right = ap length rights ∙ length-replicate {A = ℕ} (n + 2) 0 ∙ omega arith;
-      };
-    }
-
--- ---- one start
-module _ {l : PageLimits} {S m : List ℕ} {t : PointerStrips} {i r count : ℕ} (g : Paging l S m t i r count) where
+-- ---- one start, s
+module _ (s : Start) {m₀ m : List ℕ} {taken : ℕ} {t : StartStrips} {i r : ℕ} (g : Paging s.limits s.sums.now m₀ m taken t i r)
+    (next : suc s.i ≡ i) where
   abbrev ws : List ℕ
-  ws = words_of S
+  ws = text_of s
 
-  size : length S ≡ length ws + 1
-  size = holds_length g.held
+  abbrev done : Taken Pointing
+  done = so_far s.limits ws i
 
-  pub paging_length : length t.moves ≡ length m
-  paging_length =
-      ran_length (so_far l ws i) 0 m t.moves count (pointing r t) g.ran
-      (omega (arith, g.ran.count, g.room, starts_count l ws (length ws + 1 - i)))
+  low : s.i ≤ length ws
+  low = omega (arith, g.low, start_size s)
 
-  module _ (pos : 0 < i) where
-    abbrev then : Pointing → Taken Pointing
-    then = at_start (pages_of l ws) (length ws) (i - 1)
+  turn : so_far s.limits ws s.i ≡ joined done (starting s)
+  unfolding after_starts
+  turn =
+      let z : length ws - (length ws + 1 - i) ≡ s.i = omega (arith, low) in
+      let y : length ws + 1 - s.i ≡ suc (length ws + 1 - i) = omega (arith, low) in
+      rw (y, z)
 
-    turn : so_far l ws (i - 1) ≡ joined (so_far l ws i) then
-    unfolding after_starts
-    turn =
-        let z : length ws - (length ws + 1 - i) ≡ i - 1 = omega (arith, g.low, size) in
-        let y : length ws + 1 - (i - 1) ≡ suc (length ws + 1 - i) = omega (arith, g.low, size) in
-        rw (y, z)
+  room : 0 + length (joined done (starting s)).moves ≤ length m₀
+  room =
+      let all = ap (λ (u : Taken Pointing). length u.moves) turn in
+      omega (arith, starts_count s.limits ws (length ws + 1 - s.i), g.room)
 
-    room : count + length (then (pointing r t)).moves ≤ length t.moves
-    room =
-        let all = starts_count l ws (length ws + 1 - (i - 1)) in
-        let next = ap (λ (u : Taken Pointing). length u.moves) turn in
-        omega (
-          arith,
-          joined_room (so_far l ws i) then 0 m t.moves count (pointing r t) g.ran (omega (arith, g.room)),
-          paging_length,
-        )
+  -- what is left of the strip, which the start is lent
+  left_over : taken + length (starting s (pointing r t)).moves ≤ length m₀
+  left_over = joined_room done (starting s) 0 m₀ m taken (pointing r t) g.ran room
 
-    pub paging_began : count ≤ length t.moves
-    paging_began = omega (arith, room)
+  abbrev own : List ℕ
+  own = take (length m - taken) (drop taken m)
 
-    -- the moves strip as it comes back, with ms from the present count on
-    abbrev whole : List ℕ → List ℕ
-    whole ms = put_mid count (length t.moves - count) t.moves ms
+  pub paging_ask : ApplyAsk s r t own
+  paging_ask = record {
+    ready =
+        subst (PointerReady s.limits ws s.i) g.ran.stands
+        (ready_at s.limits ws (length ws + 1 - i) s.i (omega (arith, low)));
+    bests = rw next g.bests;
+    next_size = omega (arith, g.nexts.size, start_size s);
+    room = omega (arith, left_over, paging_length g, length-take (length m - taken) (drop taken m), length-drop taken m);
+  }
 
-    -- the start is lent the moves strip from the present count on
-    abbrev lent : PointerStrips
-    lent = pointer_strips t.best t.next t.left t.right (take (length t.moves - count) (drop count t.moves))
+  -- the start's moves, in what it was lent
+  module _ {came : Came} {u : StartStrips} {M : List ℕ} (d : Applied s r t own came u M) where
+    pub paging_fits : taken + came.moves ≤ length m₀
+    paging_fits = omega (arith, left_over, d.ran.count)
 
-    pub paging_ask : PointerStartAsk l (i - 1) S r lent
-    paging_ask =
-        let z : suc (i - 1) ≡ i = omega arith in
-        record {
-          held = g.held;
-          low = omega (arith, g.low);
-          ready = ready_next l t g.held g.low g.ran;
-          bests = rw z g.bests;
-          next_size = g.sized.next;
-          enough = rw (lent_is t.moves count, length-drop count t.moves) (omega (arith, room));
-        }
-
-    module _ {p : Reached} {u : PointerStrips} (d : PointerStarted l (i - 1) ws r lent p u) where
-      pub paging_fits : count + p.moves ≤ length m
-      paging_fits = omega (arith, room, d.ran.count, paging_length)
-
-      pub paging_next :
-          Paging l S m (pointer_strips u.best u.next u.left u.right (whole u.moves)) (i - 1) p.at (count + p.moves)
-      paging_next =
-          let next = pointer_strips u.best u.next u.left u.right (whole u.moves) in
-          let ran = ran_lent (then (pointing r t)) count t.moves u.moves p.moves (pointing p.at u) paging_began d.ran in
-          let all : Ran (so_far l ws (i - 1)) 0 m (whole u.moves) (count + p.moves) (pointing p.at u) =
+    pub paging_next : Paging s.limits s.sums.now m₀ (put_mid taken (length m - taken) m M) (taken + came.moves) u s.i came.at
+    paging_next = record {
+      held = g.held;
+      low = omega (arith, g.low);
+      room = g.room;
+      ran =
           rw turn
-          (joined_ran (so_far l ws i) then 0 m t.moves count (pointing r t) g.ran (whole u.moves) (count + p.moves)
-          (pointing p.at u) (omega arith) ran) in
-          let low : i - 1 ≤ length ws = omega (arith, g.low, size) in
-          let bests = bests_more g.bests (i - 1) u.best (omega arith) low d.best in
-          let nexts = entered_more g.nexts (i - 1) (i - 1) u.next (omega arith) low (omega arith) d.next in
-          record {
-            held = g.held;
-            low = omega (arith, g.low);
-            room = g.room;
-            ran = all;
-            bests = bests;
-            nexts = nexts;
-            sized = sizes l next g.held (omega (arith, g.low)) all bests nexts;
-          }
-
-  -- ---- after the last
-  pub paging_done : i ≤ 0 → PageStarts l ws m count t
-  unfolding pointer_moves
-  paging_done end =
-      let z : i ≡ 0 = omega arith in
-      let y : length ws + 1 - i ≡ length ws + 1 = omega arith in
-      let ran = rw y at g.ran in
-      let bests = rw z at g.bests.entered in
-      let k : length ws + 1 + 1 ≡ length ws + 2 = omega arith in
-      record {
-        best = entered_whole (best_end l ws) bests (length ws + 1) (omega arith) ∙ ap (entries (best_at l ws) 0) k;
-        next = entered_all (rw z at g.nexts) (length ws + 1) (omega arith);
-        left = ap (λ (s : Pointing). s.left) (sym ran.stands) ∙ left_is l ws;
-        right = ap (λ (s : Pointing). s.right) (sym ran.stands) ∙ right_is l ws;
-        moves = ran.moves ∙ onward_zero _ m;
-        count = omega (arith, ran.count);
-      }
+          (joined_ran done (starting s) 0 m₀ m taken (pointing r t) g.ran _ _ _ (omega arith)
+          (ran_lent (starting s (pointing r t)) taken m M came.moves _ (paging_began g) d.ran));
+      bests = bests_more g.bests s.i u.best (omega arith) low d.best;
+      nexts = entered_more g.nexts s.i s.i u.next (omega arith) low (omega arith) d.next;
+    }

@@ -1,6 +1,6 @@
 -- The work on the parts of the strips that are used, said of the whole strips. Assumes nothing.
-use Prim.Native.Nat.{ℕ, ◌+◌, ◌≤◌}
-use mathlib.Core.Path.{◌≡◌, ap, sym, ◌∙◌}
+use Prim.Native.Nat.{ℕ, ◌+◌}
+use mathlib.Core.Path.{◌≡◌, ap, ◌∙◌}
 use mathlib.Core.List.{List, ◌++◌}
 use native.Mathlib.Omega.{arith}
 use lib.ListN.{length, take, drop}
@@ -12,12 +12,8 @@ use Rattle.paper.specs.Strips.{sums, left_entry, right_entry}
 use Rattle.paper_theory.specs.Entries.{length_entries}
 use Rattle.strips.specs.Filling.{length_ended}
 use Rattle.strips.specs.Words.{words_of, words_of_sums, holds_sums, length_sums, sums_front}
-use Rattle.pointer.specs.Asks.{PointerStrips, pointer_strips}
-use Rattle.pages.specs.Asks.{bests_of, nexts_of, lefts_of, rights_of, PageStartsAsk, PageStarts, PageFillAsk, PageFilled}
-
--- what a part of the first k entries is lent with
-pub part_size : (k : ℕ) (s : List ℕ) → k ≤ length s → k ≡ length (take k s)
-part_size k s h = sym (length-take-le k s h)
+use Rattle.pages.specs.Asks.{PointerStrips, pointer_strips, bests_of, nexts_of, lefts_of, rights_of}
+use Rattle.pages.specs.Asks.{PageStartsAsk, PageStarts, PageFillAsk, PageFilled}
 
 module _ {l : PageLimits} {ws S₀ S : List ℕ} {s : PointerStrips} (a : PageFillAsk l ws S₀ s) (filled : S ≡ over (sums ws) S₀) where
   abbrev used : List ℕ → List ℕ

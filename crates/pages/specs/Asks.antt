@@ -2,7 +2,7 @@
 use Rattle.std.specs.Prelude.{ℕ, ◌+◌, ◌*◌, ◌≤◌, ◌≡◌, List, ◌∷◌, map, length}
 use Rattle.laws.specs.Strip.{over}
 use Rattle.paper.specs.declared.PageLimits.{PageLimits}
-use Rattle.paper.specs.declared.Answer.{Answer}
+use Rattle.paper.specs.Told.{Answer}
 use Rattle.paper.specs.Allowed.{page_limits_hold, IndexPassed}
 use Rattle.paper.specs.Index as Index
 use Rattle.paper.specs.Moves.{code}
@@ -11,7 +11,17 @@ use Rattle.paper.specs.Strips.{entries, sums, left_entry, right_entry, IndexStri
 use Rattle.strips.specs.Filling.{ended}
 use Rattle.strips.specs.Words.{Holds}
 use Rattle.pointer.specs.Held.{best_at}
-use Rattle.pointer.specs.Asks.{PointerStrips, pointer_strips}
+
+-- ---- the strips that the starts write
+pub record PointerStrips : Type 0 where
+  pub best : List ℕ
+  pub next : List ℕ
+  pub left : List ℕ
+  pub right : List ℕ
+  pub moves : List ℕ
+
+abbrev pub pointer_strips : List ℕ → List ℕ → List ℕ → List ℕ → List ℕ → PointerStrips
+pointer_strips best next left right moves = record { best = best; next = next; left = left; right = right; moves = moves }
 
 -- ---- the part used of each strip, as 01 says it
 abbrev pub bests_of : PageLimits → List ℕ → List ℕ

@@ -3,14 +3,15 @@
 
 ghost use Rattle.paper.specs.Strips.{index_strips};
 ghost use Rattle.strips.specs.Words.{words_of};
-ghost use Rattle.pointer.specs.Asks.{pointer_strips};
-ghost use Rattle.pages.specs.Asks.{PageStartsAsk, PageStarts, PageFillAsk, PageFilled, PageAsk, Paged};
+ghost use Rattle.pages.specs.Asks.{pointer_strips, PageStartsAsk, PageStarts, PageFillAsk, PageFilled, PageAsk, Paged};
 
-use paper::{Answer, PageLimits};
-use pointer::at_start;
-use strips::{NONE, clear, fill_sums, follow, wide};
+use paper::{PageLimits, Set, Unset};
+use pointer::start::Start;
+use strips::{NONE, fill_sums, follow};
 
-// "At start i, from n down to 0", on strips of just the entries used. Answers the number of moves.
+// "At start i, from n down to 0", on strips of just the entries used. Answers the number of moves. Not put into its caller, whose values
+// would take registers from the loop.
+#[inline(never)]
 fn starts(
     l: PageLimits,
     sums: &[u32],
@@ -25,20 +26,19 @@ fn starts(
         result (pointer_strips best.new next.new left.new right.new moves.new) }
 {
     let end = sums.len();
-    clear(left, end + 1);
-    clear(right, end + 1);
+    left.fill(0);
+    right.fill(0);
     best[end] = 0;
     next[end] = 0;
-    let mut i = end;
     let mut r = end;
-    let mut count = 0;
-    while i > 0 {
-        i -= 1;
-        let came = at_start(l, i, sums, best, next, left, right, r, &mut moves[count..]);
+    let mut taken = 0;
+    for i in (0..end).rev() {
+        let start = Start::new(l, i, sums);
+        let came = start.apply(best, next, left, right, r, &mut moves[taken..]);
         r = came.at;
-        count += came.moves;
+        taken += came.moves;
     }
-    count
+    taken
 }
 
 // Every strip but the boundaries. Only the parts used are lent, so the rest stays as it was. Answers the number of moves.
@@ -83,7 +83,7 @@ pub fn page(
     right: &mut [u32],
     moves: &mut [u32],
     boundaries: &mut [u32],
-) -> Answer
+) -> Result<Set, Unset>
     requires { PageAsk l lengths.now
         (index_strips sums.old best.old next.old left.old right.old moves.old boundaries.old) }
     ensures { Paged l lengths.now
@@ -96,12 +96,12 @@ pub fn page(
     let taken = fill(l, lengths, sums, best, next, left, right, moves);
     let total = best[0];
     if total == NONE {
-        return Answer::None { moves: taken };
+        return Err(Unset::None { moves: taken });
     }
-    let found = follow(next, 0, lengths.len(), wide(next[0]), boundaries);
-    Answer::Set {
+    let found = follow(next, 0, lengths.len(), next[0] as usize, boundaries);
+    Ok(Set {
         total,
         lines: found,
         moves: taken,
-    }
+    })
 }

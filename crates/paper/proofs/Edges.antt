@@ -4,13 +4,13 @@ use Rattle.laws.specs.Cost.{none as no_setting}
 use Rattle.laws.specs.Setting.{total}
 use Rattle.laws.specs.Square.{sqd}
 use Rattle.paper.specs.declared.Refusal.TheVariants.{Empty, Many, Limits as BadLimits, Length, Room}
-use Rattle.paper.specs.declared.Penalty.TheVariants.{Of, Outside, Refused}
+use Rattle.std.specs.Prelude.{Ok, Some, None, Err}
 use Rattle.paper.specs.Paragraph.{paragraph, penalty, best, chosen_next}
 use Rattle.paper.specs.declared.Limits.{Limits}
 use Rattle.paper.specs.Allowed.{edition_limits as edition, spaced_limits as spaced, limits_of as limits, page_limits_of as pages}
 use Rattle.paper.specs.Allowed.{last_holds, limits_hold, page_limits_hold}
-use Rattle.paper.specs.declared.Checked.{Checked}
-use Rattle.paper.specs.declared.Checked.TheVariants.{Accept, Refuse}
+use Rattle.paper.specs.Told.{Checked}
+use Rattle.std.specs.Prelude.{Ok, Err}
 use Rattle.paper.specs.Told.{checked, penalty_alone}
 use Rattle.paper.specs.Moves.{code}
 use Rattle.paper.specs.Computes.{strips_compute, paragraph_computes, index_computes}
@@ -44,49 +44,49 @@ abbrev given : List ℕ → Checked
 given ws = checked true 0 ws [] []
 
 pub length_edges : map given ([] ∷ (4095 ∷ []) ∷ (3 ∷ 4096 ∷ 0 ∷ []) ∷ (3 ∷ 2 ∷ 0 ∷ []) ∷ replicate 4096 1 ∷ replicate 4097 1 ∷ [])
-    ≡ Refuse Empty ∷ Accept ∷ Refuse (Length 2) ∷ Refuse (Length 3) ∷ Accept ∷ Refuse Many ∷ []
+    ≡ Err Empty ∷ (Ok tt) ∷ Err (Length 2) ∷ Err (Length 3) ∷ (Ok tt) ∷ Err Many ∷ []
 unfolding strips_compute
 length_edges = refl
 
 -- W-202: with space 3, "a length not above the space is LENGTH"
 pub space_edges : map (λ (ws : List ℕ). checked true 3 ws [] []) ((4 ∷ []) ∷ (4 ∷ 3 ∷ 2 ∷ []) ∷ (4 ∷ 0 ∷ []) ∷ (4095 ∷ 4096 ∷ []) ∷ [])
-    ≡ Accept ∷ Refuse (Length 2) ∷ Refuse (Length 2) ∷ Refuse (Length 2) ∷ []
+    ≡ Ok tt ∷ Err (Length 2) ∷ Err (Length 2) ∷ Err (Length 2) ∷ []
 unfolding strips_compute
 space_edges = refl
 
 -- EMPTY comes before LIMITS, MANY before LIMITS, and LIMITS before LENGTH.
 pub refusal_order : map (λ (ws : List ℕ). checked false 0 ws [] []) ([] ∷ replicate 4097 0 ∷ (0 ∷ []) ∷ [])
-    ≡ Refuse Empty ∷ Refuse Many ∷ Refuse BadLimits ∷ []
+    ≡ Err Empty ∷ Err Many ∷ Err BadLimits ∷ []
 unfolding strips_compute
 refusal_order = refl
 
 -- LENGTH comes before ROOM, which tells the first strip that is too short.
 pub room_edges : map (λ (ws : List ℕ). checked true 0 ws (2 ∷ 1 ∷ 0 ∷ []) (2 ∷ 2 ∷ 2 ∷ [])) ((0 ∷ []) ∷ (3 ∷ []) ∷ [])
-    ≡ Refuse (Length 1) ∷ Refuse (Room 2) ∷ []
+    ≡ Err (Length 1) ∷ Err (Room 2) ∷ []
 unfolding strips_compute
 room_edges = refl
 
 -- ---- W-204: the penalty alone, at the edges of the measure and of what may be asked. LIMITS comes before LENGTH, LENGTH before "outside".
 pub penalty_edges : map (penalty_alone (limits 6 8 10 15)) (5 ∷ 6 ∷ 8 ∷ 10 ∷ 11 ∷ 0 ∷ 16773120 ∷ 16773121 ∷ [])
-    ≡ Outside ∷ Of 60 ∷ Of 0 ∷ Of 60 ∷ Outside ∷ Outside ∷ Outside ∷ Refused (Length 0) ∷ []
+    ≡ Ok None ∷ Ok (Some 60) ∷ Ok (Some 0) ∷ Ok (Some 60) ∷ Ok None ∷ Ok None ∷ Ok None ∷ Err (Length 0) ∷ []
 unfolding penalty_alone limits_hold last_holds penalty sqd
 penalty_edges = refl
 
 -- W-202: the length is taken as given, the space off already; a space above 255 is LIMITS here too.
 pub penalty_space : map (λ (l : Limits). penalty_alone l 7) (spaced 6 8 10 15 0 ∷ spaced 6 8 10 15 3 ∷ spaced 6 8 10 15 256 ∷ [])
-    ≡ Of 15 ∷ Of 15 ∷ Refused BadLimits ∷ []
+    ≡ Ok (Some 15) ∷ Ok (Some 15) ∷ Err BadLimits ∷ []
 unfolding penalty_alone limits_hold last_holds penalty sqd
 penalty_space = refl
 
 -- W-205: a line is asked about as any other, and a bad edition or lastmin is LIMITS here too.
 pub penalty_last : map (λ (l : Limits). penalty_alone l 7)
     (edition 6 8 10 15 0 2 8 ∷ edition 6 8 10 15 0 2 9 ∷ edition 6 8 10 15 0 1 1 ∷ edition 6 8 10 15 0 0 0 ∷ edition 6 8 10 15 0 3 0 ∷ [])
-    ≡ Of 15 ∷ Refused BadLimits ∷ Refused BadLimits ∷ Refused BadLimits ∷ Refused BadLimits ∷ []
+    ≡ Ok (Some 15) ∷ Err BadLimits ∷ Err BadLimits ∷ Err BadLimits ∷ Err BadLimits ∷ []
 unfolding penalty_alone limits_hold last_holds penalty sqd
 penalty_last = refl
 
 pub penalty_order : map (penalty_alone (limits 6 8 6 1)) (5 ∷ 6 ∷ 16773121 ∷ [])
-    ≡ Refused BadLimits ∷ Refused BadLimits ∷ Refused BadLimits ∷ []
+    ≡ Err BadLimits ∷ Err BadLimits ∷ Err BadLimits ∷ []
 unfolding penalty_alone limits_hold last_holds
 penalty_order = refl
 

@@ -7,14 +7,11 @@ use Rattle.laws.specs.Outcome.{Outcome}
 use Rattle.paper.specs.declared.Limits.{Limits}
 use Rattle.paper.specs.declared.PageLimits.{PageLimits}
 use Rattle.paper.specs.declared.Move.{Move}
-use Rattle.paper.specs.declared.Answer.{Answer}
-use Rattle.paper.specs.declared.Answer.TheVariants.{Set, None, Refused}
 use Rattle.paper.specs.Paragraph as Paragraph
 use Rattle.paper.specs.Paragraph.{sum}
 use Rattle.paper.specs.Index as Index
 use Rattle.paper.specs.Allowed.{limits_hold, page_limits_hold}
-use Rattle.paper.specs.declared.Checked.{Checked}
-use Rattle.paper.specs.Told.{unless, checked}
+use Rattle.paper.specs.Told.{Answer, set_answer, none_answer, refused_answer, Checked, unless, checked}
 use Rattle.paper.specs.Moves.{code}
 use Rattle.paper.specs.QueueRules.{queue_moves}
 use Rattle.paper.specs.PointerRules.{pointer_moves}
@@ -46,12 +43,12 @@ right_entry best n j = pick smallest (λ k. leq (best k) (best j)) (j + 1) (n + 
 -- "NONE writes every strip as said above but breaks or boundaries, which stay unchanged; it returns the count of moves": the strips as
 -- written with the breaks or boundaries that are found, or with none of them
 abbrev pub set_or_none : {S : Type 0} → (List ℕ → S) → List ℕ → List Move → Cost → Outcome Answer S
-set_or_none written list moves none = record { answer = None (length moves); strips = written [] }
-set_or_none written list moves (some total) = record { answer = Set total (length list) (length moves); strips = written list }
+set_or_none written list moves none = record { answer = none_answer (length moves); strips = written [] }
+set_or_none written list moves (some total) = record { answer = set_answer total (length list) (length moves); strips = written list }
 
 -- "Refusals 1 to 5 change no strip"
 abbrev pub refused_or : {S : Type 0} → S → Checked → Outcome Answer S → Outcome Answer S
-refused_or s = unless (λ r. record { answer = Refused r; strips = s })
+refused_or s = unless (λ r. record { answer = refused_answer r; strips = s })
 
 -- ---- the paragraph
 -- "Paragraph, in order: sums (n+1 entries), best (n+1), next (n+1), queue (n), moves (2n), breaks (n)."

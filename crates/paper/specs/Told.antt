@@ -1,15 +1,13 @@
 -- 01, "What a caller is told".
 use Rattle.std.specs.Prelude.{ℕ, suc, ◌-◌, ◌^◌, Bool, true, false, not, List, [], ◌∷◌, ◌++◌, leb, ltb, eqb, length}
+use Rattle.std.specs.Prelude.{Option, Some, None, Result, Ok, Err}
 use Rattle.laws.specs.Number.{if}
 use Rattle.paper.specs.declared.Limits.{Limits}
 use Rattle.paper.specs.declared.Refusal.{Refusal}
 use Rattle.paper.specs.declared.Refusal.TheVariants.{Empty, Many, Limits as BadLimits, Length, Room, Job}
-use Rattle.paper.specs.declared.Checked.{Checked}
-use Rattle.paper.specs.declared.Checked.TheVariants.{Accept, Refuse}
-use Rattle.paper.specs.declared.Answer.{Answer}
-use Rattle.paper.specs.declared.Answer.TheVariants.{Set, None, Refused}
-use Rattle.paper.specs.declared.Penalty.{Penalty}
-use Rattle.paper.specs.declared.Penalty.TheVariants.{Of, Outside, Refused as PenaltyRefused}
+use Rattle.paper.specs.declared.Set.{Set}
+use Rattle.paper.specs.declared.Unset.{Unset}
+use Rattle.paper.specs.declared.Unset.TheVariants.{None as NoSetting, Refused}
 use Rattle.paper.specs.Allowed.{most_words, length_holds, limits_hold, most_alone}
 use Rattle.paper.specs.Lines.{inside}
 use Rattle.paper.specs.Paragraph.{penalty}
@@ -34,22 +32,39 @@ told_refusal (Length word) = refused_at 4 word
 told_refusal (Room strip) = refused_at 5 strip
 told_refusal (Job offset) = refused_at 7 offset
 
+-- the answer of a setter, and its three cases
+abbrev pub Answer : Type 0
+Answer = Result Set Unset
+
+abbrev pub set_answer : ℕ → ℕ → ℕ → Answer
+set_answer total lines moves = Ok (record { total = total; lines = lines; moves = moves })
+
+abbrev pub none_answer : ℕ → Answer
+none_answer moves = Err (NoSetting moves)
+
+abbrev pub refused_answer : Refusal → Answer
+refused_answer r = Err (Refused r)
+
 -- "NONE [..] returns the count of moves, and zero for the rest."
 unfoldable pub told : Answer → Told
-told (Set total lines moves) = record { number = 0; place = 0; total = total; lines = lines; moves = moves }
-told (None moves) = record { number = 6; place = 0; total = 0; lines = 0; moves = moves }
-told (Refused r) = told_refusal r
+told (Ok s) = record { number = 0; place = 0; total = s.total; lines = s.lines; moves = s.moves }
+told (Err (NoSetting moves)) = record { number = 6; place = 0; total = 0; lines = 0; moves = moves }
+told (Err (Refused r)) = told_refusal r
 
 -- a total and nothing else
 abbrev pub told_total : ℕ → Told
 told_total total = record { number = 0; place = 0; total = total; lines = 0; moves = 0 }
 
+-- the answer to one who asks for the penalty of a line alone: it, none where the line is outside the measure, or a refusal
+abbrev pub Alone : Type 0
+Alone = Result (Option ℕ) Refusal
+
 -- "Either refusal returns zero for the penalty." "outside" (W-204) is no refusal: it is told as 2^64 - 1, 01's "no setting", which no
 -- penalty inside the measure reaches (paper_theory: `penalty_bound`).
-unfoldable pub told_penalty : Penalty → Told
-told_penalty (Of p) = told_total p
-told_penalty Outside = told_total (2 ^ 64 - 1)
-told_penalty (PenaltyRefused r) = told_refusal r
+unfoldable pub told_penalty : Alone → Told
+told_penalty (Ok (Some p)) = told_total p
+told_penalty (Ok None) = told_total (2 ^ 64 - 1)
+told_penalty (Err r) = told_refusal r
 
 -- ---- when each is given
 -- the number of the first entry that fails the test, counted from k; 0 where none does
@@ -118,16 +133,20 @@ abbrev pub first_given : {R A : Type 0} → (R → A) → A → List (Check R) �
 first_given refuse accept [] = accept
 first_given refuse accept (c ∷ cs) = if c.applies (refuse c.refusal) (first_given refuse accept cs)
 
+-- what checks find: a refusal, or none
+abbrev pub Checked : Type 0
+Checked = Result (Unit {0}) Refusal
+
 -- what is said of a refusal that was found, and else what comes later
 abbrev pub unless : {A : Type 0} → (Refusal → A) → Checked → A → A
-unless refuse (Refuse r) later = refuse r
-unless refuse Accept later = later
+unless refuse (Err r) later = refuse r
+unless refuse (Ok _) later = later
 
 abbrev pub itself : Refusal → Refusal
 itself r = r
 
 abbrev pub given : List (Check Refusal) → Checked
-given = first_given Refuse Accept
+given = first_given Err (Ok tt)
 
 -- those of a paragraph and of an index, whose limits hold or not and have that space
 abbrev pub setter_checks : Bool → ℕ → List ℕ → List ℕ → List ℕ → Checks Refusal
@@ -147,8 +166,8 @@ checked hold space ws has needs = given (in_order itself (setter_checks hold spa
 -- "The penalty formula can also be asked for alone, from paragraph limits and one length from 0 to 16,773,120. [..] Bad limits are LIMITS;
 -- then a larger length is LENGTH, place 0." W-204: "Outside lmin..lmax it gets a number that looks cheap; there the function shall answer
 -- "outside"." The length is that of a line, the space off already.
-unfoldable pub penalty_alone : Limits → ℕ → Penalty
+unfoldable pub penalty_alone : Limits → ℕ → Alone
 penalty_alone l x =
-    if (not (limits_hold l)) (PenaltyRefused BadLimits)
-    (if (ltb most_alone x) (PenaltyRefused (Length 0))
-    (if (inside l.lmin l.lmax x) (Of (penalty l x)) Outside))
+    if (not (limits_hold l)) (Err BadLimits)
+    (if (ltb most_alone x) (Err (Length 0))
+    (if (inside l.lmin l.lmax x) (Ok (Some (penalty l x))) (Ok None)))

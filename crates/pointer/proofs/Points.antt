@@ -1,51 +1,41 @@
--- The steps, and then the jumps, which go on in the moves strip where the steps end. Assumes nothing.
-use Prim.Native.Nat.{ℕ, suc, ◌≤◌, ◌<◌}
-use mathlib.Core.Path.{◌≡◌, subst}
-use mathlib.Core.List.{List}
-use native.Mathlib.Omega.{arith}
-use lib.ListN.{length}
-use Rattle.paper.specs.declared.PageLimits.{PageLimits}
-use Rattle.paper.specs.PointerRules.{pages_of, steps, pointed}
+-- The steps, and then the jumps. Assumes nothing.
+use Rattle.std.proofs.Common.{ℕ, suc, ◌≤◌, ◌<◌, List, subst, arith}
+use Rattle.paper.specs.PointerRules.{pages_of, pointed}
 use Rattle.pointer_theory.proofs.Turns.{steps_by}
 use Rattle.pointer_theory.proofs.Ready.{step_above}
-use Rattle.strips.specs.Running.{Ran, joined_first, joined_room, joined_ran}
-use Rattle.pointer.specs.Asks.{pages_in, StepsAsk, JumpsAsk}
-use Rattle.pointer.proofs.Lowers.{stepping, jumping}
+use Rattle.pointer.specs.declared.moves.Moves.{Moves}
+use Rattle.pointer.specs.declared.start.Start.{Start}
+use Rattle.pointer.specs.Taking.{Took}
+use Rattle.pointer.specs.Asks.{text_of, pages_at, stepping, jumping, pointing_from, StepsAsk, JumpsAsk}
+use Rattle.pointer.proofs.Taking.{room_first, room_next, took_both}
 
 -- the steps stay above the start
-steps_between : (l : PageLimits) (ws : List ℕ) (i r : ℕ) → i < r →
-    (i < (steps (pages_of l ws) i r).stands) × ((steps (pages_of l ws) i r).stands ≤ r)
+steps_between : (s : Start) (r : ℕ) → s.i < r → (s.i < (stepping s r).stands) × ((stepping s r).stands ≤ r)
 unfolding pages_of
-steps_between l ws i =
-    steps_by (pages_of l ws) i (λ r t. i < r → (i < t.stands) × (t.stands ≤ r))
+steps_between s =
+    steps_by (pages_at s) s.i (λ r t. s.i < r → (s.i < t.stands) × (t.stands ≤ r))
     (λ r h above. (above, omega arith))
-    (λ r t h rest above. let b = rest (omega (arith, step_above l ws i (suc r) above h)) in (b.0, omega (arith, b.1)))
+    (λ r t h rest above. let b = rest (omega (arith, step_above s.limits (text_of s) s.i (suc r) above h)) in (b.0, omega (arith, b.1)))
 
-module _ {l : PageLimits} {i : ℕ} {S left : List ℕ} {r c : ℕ} where
-  pub point_steps : {room : ℕ} → JumpsAsk (pointed (pages_in l S) i left r) l i S left r c room → StepsAsk (stepping l i S r) l i S r c room
+module _ {s : Start} {left : List ℕ} {r : ℕ} {m : Moves} (a : JumpsAsk (pointing_from s left r) s left r m) where
+  pub point_steps : StepsAsk (stepping s r) s r m
   unfolding pointed
-  point_steps {room} a = record {
-    page = a.steps.page;
-    enough = joined_first (stepping l i S r) (jumping l i S left) c room a.steps.enough;
-  }
+  point_steps = record { page = a.steps.page; room = room_first (stepping s r) (jumping s left) m a.steps.room }
 
   -- the steps came to q
-  module _ {m₀ m : List ℕ} {taken q : ℕ} (a : JumpsAsk (pointed (pages_in l S) i left r) l i S left r c (length m₀))
-      (ran : Ran (stepping l i S r) c m₀ m taken q) where
-    pub point_jumps : length m ≡ length m₀ → JumpsAsk (jumping l i S left q) l i S left q taken (length m)
+  module _ {n : Moves} {q : ℕ} (took : Took (stepping s r) m n q) where
+    pub point_jumps : JumpsAsk (jumping s left q) s left q n
     unfolding pointed
-    point_jumps kept =
-        let b = subst (λ (z : ℕ). (i < z) × (z ≤ r)) ran.stands (steps_between l _ i r a.steps.page.above) in
+    point_jumps =
+        let b = subst (λ (z : ℕ). (s.i < z) × (z ≤ r)) took.ran.stands (steps_between s r a.steps.page.above) in
         record {
           steps = record {
-            page = record { held = a.steps.page.held; above = b.0; within = omega (arith, b.1, a.steps.page.within) };
-            enough = omega (arith, joined_room (stepping l i S r) (jumping l i S left) c m₀ m taken q ran a.steps.enough);
+            page = record { above = b.0; within = omega (arith, b.1, a.steps.page.within) };
+            room = room_next (stepping s r) (jumping s left) m a.steps.room took;
           };
-          size = a.size;
-          falls = a.falls;
-          from = a.from;
+          lefts = a.lefts;
         }
 
-    pub point_done : {n : List ℕ} {k w : ℕ} → Ran (jumping l i S left q) taken m n k w → Ran (pointed (pages_in l S) i left r) c m₀ n k w
+    pub point_done : {k : Moves} {p : ℕ} → Took (jumping s left q) n k p → Took (pointing_from s left r) m k p
     unfolding pointed
-    point_done {n} {k} {w} = joined_ran (stepping l i S r) (jumping l i S left) c m₀ m taken q ran n k w (omega (arith, a.steps.enough))
+    point_done = took_both (stepping s r) (jumping s left) m a.steps.room took

@@ -1,232 +1,213 @@
-// The pointer rules of document 01, a start at a time, which has taken `count` moves. Gap(i, r) is sums[r - 1] - sums[i], so a rule
-// compares sums[r - 1] with what start i allows. Workshop parts: they ask what their callers meet.
+// The pointer rules of document 01, a start at a time. Workshop parts: they ask what their callers meet.
 #![tactic(auto)]
 
-ghost use Rattle.std.specs.Prelude.{◌≡◌, length};
+ghost use Rattle.std.specs.Prelude.{◌≡◌};
 ghost use Rattle.paper.specs.Index.{item};
-ghost use Rattle.paper.specs.PointerRules.{steps as is_steps, jumps as is_jumps, pointed, chooser};
-ghost use Rattle.strips.specs.Running.{Ran};
-ghost use Rattle.strips.specs.Words.{words_of};
-ghost use Rattle.pointer.specs.Asks.{pages_in, link_strips, pointer_strips, StepsAsk, JumpsAsk, LinksAsk, JoinAsk, OwnAsk, ChoiceAsk};
-ghost use Rattle.pointer.specs.Asks.{PointerSettleAsk, PointerStartAsk, LinksCame, JoinCame, PointerSettled, PointerStarted};
 
-use paper::{Kind, Move, PageLimits};
-use strips::{NONE, Reached, long, put, wide};
+use paper::{Kind, Move};
+use strips::NONE;
 
-// "Step r to r-1 while Gap(i, r) > lmax".
-fn steps(
-    l: PageLimits,
-    i: usize,
-    sums: &[u32],
-    r: usize,
-    moves: &mut [u32],
-    count: usize,
-) -> Reached
-    requires { StepsAsk (is_steps (pages_in l sums.now) i r) l i sums.now r count (length moves.old) }
-    ensures { Ran (is_steps (pages_in l sums.now) i r) count moves.old moves.new result.moves result.at }
-{
-    let from = sums[i];
-    let mut at = r;
-    let mut taken = count;
-    while from + l.lmax < sums[at - 1] {
-        at -= 1;
-        put(
-            moves,
-            taken,
-            Move {
+pub mod moves;
+pub mod start;
+
+use moves::Moves;
+use start::Start;
+
+// What r came to at a start, and how many moves that took.
+#[derive(Clone, Copy, Debug, PartialEq, Eq)]
+pub struct Came {
+    pub at: usize,
+    pub moves: usize,
+}
+
+impl Start<'_> {
+    ghost use Rattle.pointer.specs.Taking.{Took};
+    ghost use Rattle.pointer.specs.Asks.{stepping, jumping, pointing_from, StepsAsk, JumpAsk, JumpsAsk, CanJump};
+
+    // "Step r to r-1 while Gap(i, r) > lmax". Answers what r came to.
+    fn steps(&self, r: usize, moves: &mut Moves) -> usize
+        requires { StepsAsk (stepping self.now r) self.now r moves.old }
+        ensures { Took (stepping self.now r) moves.old moves.new result }
+    {
+        let mut at = r;
+        while self.sums[at - 1] > self.far {
+            at -= 1;
+            moves.put(Move {
                 kind: Kind::Step,
                 index: at as u32,
-            },
-        );
-        taken += 1;
+            });
+        }
+        at
     }
-    Reached { at, moves: taken }
-}
 
-// "Jump r to its left entry while it has one and Gap(i, that entry) ≥ lmin".
-fn jumps(
-    l: PageLimits,
-    i: usize,
-    sums: &[u32],
-    left: &[u32],
-    r: usize,
-    moves: &mut [u32],
-    count: usize,
-) -> Reached
-    requires { JumpsAsk (is_jumps (pages_in l sums.now) i left.now r r) l i sums.now left.now r count (length moves.old) }
-    ensures { Ran (is_jumps (pages_in l sums.now) i left.now r r) count
-        moves.old moves.new result.moves result.at }
-{
-    let from = sums[i];
-    let mut at = r;
-    let mut taken = count;
-    'jumping: loop {
-        let entry = left[at];
-        let to = wide(entry);
+    // Where r jumps: to its left entry, if "it has one and Gap(i, that entry) ≥ lmin".
+    fn jump(&self, left: &[u32], r: usize) -> Option<usize>
+        requires { JumpAsk self.now left.now r }
+        ensures { CanJump self.now left.now r result }
+    {
+        let to = left[r] as usize;
         if to == 0 {
-            break;
+            return None;
         }
-        if sums[to - 1] < from + l.lmin {
-            break;
+        if self.sums[to - 1] < self.near {
+            return None;
         }
-        put(
-            moves,
-            taken,
-            Move {
-                kind: Kind::Jump,
-                index: entry,
-            },
-        );
-        taken += 1;
-        at = to;
+        Some(to)
     }
-    Reached { at, moves: taken }
+
+    // "Jump r to its left entry while" it can. Answers what r came to.
+    fn jumps(&self, left: &[u32], r: usize, moves: &mut Moves) -> usize
+        requires { JumpsAsk (jumping self.now left.now r) self.now left.now r moves.old }
+        ensures { Took (jumping self.now left.now r) moves.old moves.new result }
+    {
+        let mut at = r;
+        while let Some(to) = self.jump(left, at) {
+            moves.put(Move {
+                kind: Kind::Jump,
+                index: to as u32,
+            });
+            at = to;
+        }
+        at
+    }
+
+    // The steps, then the jumps.
+    fn point(&self, left: &[u32], r: usize, moves: &mut Moves) -> usize
+        requires { JumpsAsk (pointing_from self.now left.now r) self.now left.now r moves.old }
+        ensures { Took (pointing_from self.now left.now r) moves.old moves.new result }
+    {
+        let stepped = self.steps(r, moves);
+        self.jumps(left, stepped, moves)
+    }
 }
 
-// The steps, then the jumps, which go on where the steps' moves end.
-fn point(
-    l: PageLimits,
-    i: usize,
-    sums: &[u32],
-    left: &[u32],
-    r: usize,
-    moves: &mut [u32],
-    count: usize,
-) -> Reached
-    requires { JumpsAsk (pointed (pages_in l sums.now) i left.now r) l i sums.now left.now r count (length moves.old) }
-    ensures { Ran (pointed (pages_in l sums.now) i left.now r) count
-        moves.old moves.new result.moves result.at }
-{
-    let stepped = steps(l, i, sums, r, moves, count);
-    jumps(l, i, sums, left, stepped.at, moves, stepped.moves)
-}
+impl Start<'_> {
+    ghost use Rattle.pointer.specs.Asks.{LinksAsk, LinksCame, JoinAsk, JoinCame};
 
-// "from k = i+1, while best k > best i, Link k (its left becomes i) and go on at the right of k": cost is the best of i.
-fn links(
-    i: usize,
-    cost: u64,
-    best: &[u64],
-    left: &mut [u32],
-    right: &[u32],
-    moves: &mut [u32],
-    count: usize,
-) -> Reached
-    requires { LinksAsk i cost best.now (link_strips left.old right.now moves.old) count }
-    ensures { LinksCame i best.now (link_strips left.old right.now moves.old) count
-        result left.new moves.new }
-{
-    let mut k = i + 1;
-    let mut taken = count;
-    while best[k] > cost {
-        left[k] = i as u32;
-        put(
-            moves,
-            taken,
-            Move {
+    // "from k = i+1, while best k > best i, Link k (its left becomes i) and go on at the right of k": cost is the best of
+    // the start. Answers the k reached.
+    fn links(
+        &self,
+        cost: u64,
+        best: &[u64],
+        left: &mut [u32],
+        right: &[u32],
+        moves: &mut Moves,
+    ) -> usize
+        requires { LinksAsk self.now cost best.now left.old right.now moves.old }
+        ensures { LinksCame self.now best.now left.old right.now moves.old result left.new moves.new }
+    {
+        let mut k = self.i + 1;
+        while best[k] > cost {
+            left[k] = self.i as u32;
+            moves.put(Move {
                 kind: Kind::Link,
                 index: k as u32,
-            },
-        );
-        taken += 1;
-        k = wide(right[k]);
+            });
+            k = right[k] as usize;
+        }
+        k
     }
-    Reached {
-        at: k,
-        moves: taken,
+
+    // "Then, for i ≥ 1 only": the links, and "the k reached becomes the right of i".
+    fn join(&self, cost: u64, best: &[u64], left: &mut [u32], right: &mut [u32], moves: &mut Moves)
+        requires { JoinAsk self.now cost best.now left.old right.old moves.old }
+        ensures { JoinCame self.now left.old right.old moves.old left.new right.new moves.new }
+    {
+        if self.i == 0 {
+            return;
+        }
+        let reached = self.links(cost, best, left, right, moves);
+        right[self.i] = reached as u32;
     }
 }
 
-// "Then, for i ≥ 1 only": the links, and "the k reached becomes the right of i". Answers the moves taken so far.
-fn join(
-    i: usize,
-    cost: u64,
-    best: &[u64],
-    left: &mut [u32],
-    right: &mut [u32],
-    moves: &mut [u32],
-    count: usize,
-) -> usize
-    requires { JoinAsk i cost best.now (link_strips left.old right.old moves.old) count }
-    ensures { JoinCame i best.now (link_strips left.old right.old moves.old) count
-        result (link_strips left.new right.new moves.new) }
-{
-    if i == 0 {
-        return count;
-    }
-    let reached = links(i, cost, best, left, right, moves, count);
-    right[i] = reached.at as u32;
-    reached.moves
-}
+impl Start<'_> {
+    ghost use Rattle.pointer.specs.Asks.{text_of, start_strips, ChoiceAsk, Chosen, PointerSettleAsk, PointerSettled};
+    ghost use Rattle.pointer.specs.Asks.{PointerStartAsk, PointerStarted, ApplyAsk, Applied};
 
-// "r is the chooser if Gap(i, r) lies in lmin..lmax and r has a setting": b is its best, and the steps left Gap(i, r) within lmax.
-fn chooses(l: PageLimits, i: usize, sums: &[u32], r: usize, b: u64) -> bool
-    requires { ChoiceAsk l i sums.now r b }
-    ensures { result ≡ chooser (pages_in l sums.now) i r }
-{
-    if b == NONE {
-        return false;
+    // The length that the start counts: nothing for 0.
+    fn own(&self) -> u64
+        ensures { result ≡ item (text_of self.now) self.now.i }
+    {
+        if self.i == 0 {
+            0
+        } else {
+            u64::from(self.sums[self.i] - self.sums[self.i - 1])
+        }
     }
-    sums[i] + l.lmin <= sums[r - 1]
-}
 
-// The length that start i counts: nothing for 0.
-fn own(sums: &[u32], i: usize) -> u64
-    requires { OwnAsk sums.now i }
-    ensures { result ≡ item (words_of sums.now) i }
-{
-    if i == 0 {
-        0
-    } else {
-        long(sums[i] - sums[i - 1])
+    // The best of the start, whose rules came to r: "r is the chooser if Gap(i, r) lies in lmin..lmax and r has a setting, else i has
+    // none". The steps left Gap(i, r) within lmax.
+    fn choice(&self, best: &[u64], r: usize) -> Option<u64>
+        requires { ChoiceAsk self.now best.now r }
+        ensures { Chosen self.now r result }
+    {
+        let b = best[r];
+        if b == NONE {
+            return None;
+        }
+        if self.sums[r - 1] < self.near {
+            return None;
+        }
+        Some(self.own() + b)
     }
-}
 
-// The best and the chosen next of start i, where its rules came to r: "else i has none". Answers the best as it is written.
-fn settle(
-    l: PageLimits,
-    i: usize,
-    sums: &[u32],
-    best: &mut [u64],
-    next: &mut [u32],
-    r: usize,
-) -> u64
-    requires { PointerSettleAsk l i sums.now best.old next.old r }
-    ensures { PointerSettled l (words_of sums.now) i best.old next.old
-        result best.new next.new }
-{
-    let b = best[r];
-    if chooses(l, i, sums, r, b) {
-        let cost = own(sums, i) + b;
-        best[i] = cost;
-        next[i] = r as u32;
-        return cost;
+    // Enters the best of the start and its chosen next. Answers the best as it is entered.
+    fn settle(&self, best: &mut [u64], next: &mut [u32], r: usize) -> u64
+        requires { PointerSettleAsk self.now best.old next.old r }
+        ensures { PointerSettled self.now best.old next.old result best.new next.new }
+    {
+        let Some(total) = self.choice(best, r) else {
+            best[self.i] = NONE;
+            next[self.i] = 0;
+            return NONE;
+        };
+        best[self.i] = total;
+        next[self.i] = r as u32;
+        total
     }
-    best[i] = NONE;
-    next[i] = 0;
-    NONE
-}
 
-// One start, which is lent the moves strip from the present count on: the pointer, the choice, the links. The moves in the answer are
-// its own.
-pub fn at_start(
-    l: PageLimits,
-    i: usize,
-    sums: &[u32],
-    best: &mut [u64],
-    next: &mut [u32],
-    left: &mut [u32],
-    right: &mut [u32],
-    r: usize,
-    moves: &mut [u32],
-) -> Reached
-    requires { PointerStartAsk l i sums.now r (pointer_strips best.old next.old left.old right.old moves.old) }
-    ensures { PointerStarted l i (words_of sums.now) r
-        (pointer_strips best.old next.old left.old right.old moves.old)
-        result (pointer_strips best.new next.new left.new right.new moves.new) }
-{
-    let pointed = point(l, i, sums, left, r, moves, 0);
-    let at = pointed.at;
-    let cost = settle(l, i, sums, best, next, at);
-    let taken = join(i, cost, best, left, right, moves, pointed.moves);
-    Reached { at, moves: taken }
+    // The pointer, the choice, the links. Answers what r came to.
+    fn rules(
+        &self,
+        best: &mut [u64],
+        next: &mut [u32],
+        left: &mut [u32],
+        right: &mut [u32],
+        r: usize,
+        moves: &mut Moves,
+    ) -> usize
+        requires { PointerStartAsk self.now r (start_strips best.old next.old left.old right.old) moves.old }
+        ensures { PointerStarted self.now r
+            (start_strips best.old next.old left.old right.old) moves.old
+            result (start_strips best.new next.new left.new right.new) moves.new }
+    {
+        let at = self.point(left, r, moves);
+        let cost = self.settle(best, next, at);
+        self.join(cost, best, left, right, moves);
+        at
+    }
+
+    // One start, which is lent the moves strip from the present count on. The moves in the answer are its own.
+    pub fn apply(
+        &self,
+        best: &mut [u64],
+        next: &mut [u32],
+        left: &mut [u32],
+        right: &mut [u32],
+        r: usize,
+        strip: &mut [u32],
+    ) -> Came
+        requires { ApplyAsk self.now r (start_strips best.old next.old left.old right.old) strip.old }
+        ensures { Applied self.now r (start_strips best.old next.old left.old right.old) strip.old
+            result (start_strips best.new next.new left.new right.new) strip.new }
+    {
+        let mut moves = Moves { strip, taken: 0 };
+        let at = self.rules(best, next, left, right, r, &mut moves);
+        Came {
+            at,
+            moves: moves.taken,
+        }
+    }
 }

@@ -11,22 +11,14 @@ use Rattle.paper.specs.Moves.{code, move, joined}
 use Rattle.paper.specs.QueueRules.{pop_worse, pop_bridged, added, add}
 use Rattle.lines.specs.declared.Break.{Break}
 use Rattle.lines.specs.Held.{begins, break_in, cost_at}
-use Rattle.lines.specs.Asks.{Through, Three}
+use Rattle.lines.specs.Asks.{Three}
 use Rattle.lines.specs.Tests.{bridged_in}
-use Rattle.strips.specs.declared.Reached.{Reached}
 use Rattle.strips.specs.Running.{joined_ran}
 use Rattle.strips.specs.Single.{ran_move}
 use Rattle.queue.specs.Asks.{ShedAsks, NewAt, WorsePopped, PopBridgedAsks, BridgesAt, BridgedPopped, Start, text_at, Inside}
-use Rattle.queue.specs.Asks.{AddAsks, Adds}
+use Rattle.queue.specs.Asks.{Costed, AddAsks, Adds}
 use Rattle.queue.proofs.Members.{member_index, inside_through, inside_three, cost_in, queued_each, queued_below, queued_falls}
 use Rattle.queue.proofs.Members.{queued_sheds}
-
--- the index, its place in the strip, and its move's place fit
-pub record Fitted (j : ℕ) (Q : List ℕ) (at taken room : ℕ) : Type 0 where
-  pub index : j ≤ 4097
-  pub place : at < length Q
-  pub short : length Q ≤ 4096
-  pub left : taken < room
 
 module _ {s : Start} {j : ℕ} {new : Break} {q : Part} {t room : ℕ} (a : AddAsks s j new q t room) where
   inside : Inside s j
@@ -38,9 +30,9 @@ module _ {s : Start} {j : ℕ} {new : Break} {q : Part} {t room : ℕ} (a : AddA
         high = omega (arith, a.high);
       }
 
-  pub adding_worse : ShedAsks (Through s.limits s.measure.goal s.ends s.best) q t room
+  pub adding_worse : ShedAsks (Costed s) q t room
   adding_worse =
-      queued_sheds a.consider.queued (omega arith) a.consider.queued.order (omega arith) a.consider.readable.few
+      queued_sheds a.consider.queued (omega arith) a.consider.queued.order (omega arith)
       (omega (arith, a.consider.enough))
       (λ k below m. (inside_through a.consider.readable (omega arith) m, member_index a.consider.readable m.member))
 
@@ -56,7 +48,7 @@ module _ {s : Start} {j : ℕ} {new : Break} {q : Part} {t room : ℕ} (a : AddA
 
   -- at a start before the candidate
   module _ {cost : ℕ} (is : cost ≡ cost_at s.limits s.measure.goal new) where
-    new_at : (i : ℕ) → i < j → NewAt s.limits s.measure.goal s.ends s.best cost q
+    new_at : (i : ℕ) → i < j → NewAt s cost q
     new_at i before = record {
       costs = record {
         text = text_at s;
@@ -70,20 +62,19 @@ module _ {s : Start} {j : ℕ} {new : Break} {q : Part} {t room : ℕ} (a : AddA
     }
 
     -- the pops left the queue at the part up to place w, and then at that up to place b
-    module _ {m₀ m₁ : List ℕ} {w : Reached} (worse : WorsePopped s.limits s.measure.goal s.ends s.best cost q t m₀ m₁ w) where
+    module _ {m₀ m₁ : List ℕ} {w v : ℕ} (worse : WorsePopped s cost q t m₀ m₁ w v) where
       pub adding_bridged : length m₁ ≡ room →
-          PopBridgedAsks s.limits s.ends s.best new (part q.strip q.from w.at) w.moves (length m₁)
+          PopBridgedAsks s new (part q.strip q.from w) v (length m₁)
       adding_bridged same = record {
-        shed = queued_sheds a.consider.queued (omega arith) worse.order worse.high a.consider.readable.few
+        shed = queued_sheds a.consider.queued (omega arith) worse.order worse.high
             (omega (arith, a.consider.enough, worse.count))
             (λ k below m. (record { first = omega arith; within = m.member.within }, member_index a.consider.readable m.member));
-        same = omega (arith, a.consider.readable.ends, a.consider.readable.bests);
         threes = λ p low high. three p low (omega (arith, worse.high));
       }
 
-      module _ {m₂ : List ℕ} {b : Reached}
-          (popped : BridgedPopped s.limits s.ends s.best new (part q.strip q.from w.at) w.moves m₁ m₂ b) where
-        bridges_at : BridgesAt s.limits s.ends s.best new (part q.strip q.from w.at)
+      module _ {m₂ : List ℕ} {b u : ℕ}
+          (popped : BridgedPopped s new (part q.strip q.from w) v m₁ m₂ b u) where
+        bridges_at : BridgesAt s new (part q.strip q.from w)
         bridges_at = record {
           text = text_at s;
           candidate = j;
@@ -94,33 +85,31 @@ module _ {s : Start} {j : ℕ} {new : Break} {q : Part} {t room : ℕ} (a : AddA
               (rw a.consider.read at (three p low (omega (arith, worse.high)))));
         }
 
-        pub adding_fits : Fitted j q.strip b.at b.moves room
-        adding_fits = record {
-          index = omega (arith, a.consider.within, a.consider.readable.ends, a.consider.readable.few);
-          place = omega (arith, a.consider.queued.place, a.consider.later, worse.high, popped.high);
-          short = a.consider.readable.few;
-          left = omega (arith, a.consider.enough, worse.count, worse.order, popped.count, popped.order, popped.high);
-        }
+        place : b < length q.strip
+        place = omega (arith, a.consider.queued.place, a.consider.later, worse.high, popped.high)
 
-        pub adding_done : {n : List ℕ} → length m₀ ≡ room → length m₂ ≡ room → n ≡ set m₂ b.moves (code (move Add j)) →
-            Adds s j q t m₀ (record { at = b.at + 1; moves = b.moves + 1 }) (set q.strip b.at j) n
+        room_left : u < room
+        room_left = omega (arith, a.consider.enough, worse.count, worse.order, popped.count, popped.order, popped.high)
+
+        pub adding_done : {n : List ℕ} → length m₀ ≡ room → length m₂ ≡ room → n ≡ set m₂ u (code (move Add j)) →
+            Adds s j q t m₀ (b + 1) (u + 1) (set q.strip b j) n
         unfolding add new_at bridges_at
         adding_done {n} same same₂ put =
-            let rest = reverse (listed (part q.strip q.from b.at)) in
-            let stands = slice_push q.from b.at q.strip j popped.order
-            adding_fits.place in
+            let rest = reverse (listed (part q.strip q.from b)) in
+            let stands = slice_push q.from b q.strip j popped.order
+            place in
             record {
               low = omega (arith, popped.order);
               high = omega (arith, worse.high, popped.high);
-              same = length-set q.strip b.at j;
+              same = length-set q.strip b j;
               ran = λ i before.
-                  let pops = joined_ran (pop_worse (text_at s) i j (reverse (listed q))) (pop_bridged (text_at s) j) t m₀ m₁ w.moves
-                  (reverse (listed (part q.strip q.from w.at))) (worse.ran (new_at i before)) m₂ b.moves rest
+                  let pops = joined_ran (pop_worse (text_at s) i j (reverse (listed q))) (pop_bridged (text_at s) j) t m₀ m₁ v
+                  (reverse (listed (part q.strip q.from w))) (worse.ran (new_at i before)) m₂ u rest
                   (omega (arith, a.consider.enough)) (popped.ran bridges_at) in
                   let all =
                   joined_ran (joined (pop_worse (text_at s) i j (reverse (listed q))) (pop_bridged (text_at s) j)) (added j) t m₀ m₂
-                  b.moves rest
-                  pops n (b.moves + 1) (reverse (j ∷ rest)) (omega (arith, a.consider.enough))
-                  (ran_move (omega (arith, adding_fits.left)) put) in
+                  u rest
+                  pops n (u + 1) (reverse (j ∷ rest)) (omega (arith, a.consider.enough))
+                  (ran_move (omega (arith, room_left)) put) in
                   rw stands all;
             }

@@ -1,3 +1,4 @@
+pub mod Going
 pub mod Shedding
 pub mod Dropping
 pub mod Popping

@@ -3,14 +3,14 @@
 use Prim.Native.Nat.{ℕ, ◌+◌, ◌-◌, ◌≤◌, ◌<◌}
 use mathlib.Core.Path.{◌≡◌}
 use native.Mathlib.Omega.{arith}
-use lib.ListN.{length, get_or}
+use lib.ListN.{get_or}
 use Rattle.laws.specs.Members.{every_slice, slice_every, slice_pairs}
 use Rattle.laws.specs.Part.{Part, part, Each, part_later}
 use Rattle.paper.specs.QueueRules.{F}
 use Rattle.lines.specs.Held.{begins, break_in, text_in, cost_at}
-use Rattle.lines.specs.Asks.{farthest, Priced, EndsInside, Through, Three}
+use Rattle.lines.specs.Asks.{farthest, Priced, EndsInside, Three}
 use Rattle.lines.specs.Tests.{line_in, through_in}
-use Rattle.queue.specs.Asks.{ShedAsks, Past, Start, text_at, Readable, Member, Inside, Queued}
+use Rattle.queue.specs.Asks.{ShedAsks, Past, Start, text_at, Costed, Readable, Member, Inside, Queued}
 
 module _ {s : Start} {n : ℕ} (readable : Readable s n) where
   bounded : s.measure.goal ≤ farthest
@@ -28,7 +28,7 @@ module _ {s : Start} {n : ℕ} (readable : Readable s n) where
       let p = readable.placed in
       record { low = omega (arith, p.near, p.goal, m.member.reach); high = omega (arith, p.far, p.goal, m.high) }
 
-  pub inside_through : {k : ℕ} → 1 ≤ k → Inside s k → Through s.limits s.measure.goal s.ends s.best k
+  pub inside_through : {k : ℕ} → 1 ≤ k → Inside s k → Costed s k
   inside_through first m = record {
     index = record { first = first; within = m.member.within };
     same = omega (arith, readable.ends, readable.bests);
@@ -82,13 +82,12 @@ module _ {P : ℕ → Type 0} {q : Part} {c : ℕ} (queued : Queued P q c) where
   }
 
   -- a part of it, in a rule that asks P' of each member
-  pub queued_sheds : {P' : ℕ → Type 0} {f e t room : ℕ} → q.from ≤ f → f ≤ e → e ≤ q.to → length q.strip ≤ 4096 → t + (e - f) ≤ room →
+  pub queued_sheds : {P' : ℕ → Type 0} {f e t room : ℕ} → q.from ≤ f → f ≤ e → e ≤ q.to → t + (e - f) ≤ room →
       ((k : ℕ) → c < k → P k → P' k × (k ≤ 4097)) → ShedAsks P' (part q.strip f e) t room
-  queued_sheds {P'} {f} {e} low order high short enough gives =
+  queued_sheds {P'} {f} {e} low order high enough gives =
       record {
         order = order;
         standing = omega (arith, queued.standing);
-        short = short;
         enough = enough;
         each = λ a l h. (at a (omega arith) (omega arith)).0;
         index = λ a l h. (at a (omega arith) (omega arith)).1;

@@ -5,11 +5,9 @@ use mathlib.Core.List.{List}
 use native.Mathlib.Omega.{arith}
 use lib.ListN.{length, get_or, set, length-set}
 use Rattle.laws.specs.Part.{Part, part}
-use Rattle.paper.specs.declared.Kind.{Kind}
 use Rattle.paper.specs.declared.Kind.TheVariants.{Drop, Pop}
 use Rattle.paper.specs.declared.Move.{Move}
 use Rattle.paper.specs.Moves.{Taken, code, move, moved, still}
-use Rattle.strips.specs.Asks.{MoveAsk}
 use Rattle.strips.specs.Running.{Running, running_first, running_same, running_more, running_done}
 use Rattle.queue.specs.Asks.{ShedAsks, Shed}
 
@@ -36,11 +34,8 @@ module _ {I : Type 0} {P : ℕ → Type 0} {rule : I → Part → Taken (List �
 
   module _ {q : Part} {m : List ℕ} {u : ℕ} (inv : Shedding rule q₀ q t m₀ m u) where
     -- a member that is left has room for its move
-    pub shed_room : q.from < q.to → u < length m
+    shed_room : q.from < q.to → u < length m
     shed_room some = omega (arith, asks.enough, inv.count, inv.same, inv.low, inv.high)
-
-    pub shed_put : (kind : Kind) (a : ℕ) → q₀.from ≤ a → a < q₀.to → q.from < q.to → MoveAsk m u (move kind (get_or q₀.strip a 0))
-    shed_put kind a low high some = record { place = shed_room some; index = asks.index a low high }
 
     module _ {n : List ℕ} where
       more : (p : Part) (mv : Move) → q.from ≤ p.from → p.from ≤ p.to → p.to ≤ q.to → p.to - p.from + 1 ≡ q.to - q.from →

@@ -21,8 +21,7 @@ use Rattle.lines.specs.Asks.{costliest, Indexed}
 use Rattle.lines.specs.Tests.{line_in, no_line_in}
 use Rattle.strips.specs.Costs.{cost_of}
 use Rattle.strips.specs.Running.{Running, running_first, running_same, running_rule, running_done, running_length}
-use Rattle.strips.specs.declared.Reached.{Reached}
-use Rattle.queue.specs.Asks.{Start, text_at, Inside, Queued, ConsiderAsks, Considers, CandidatesAsk, CandidatesLeave}
+use Rattle.queue.specs.Asks.{Start, text_at, Inside, Queued, Considers, CandidatesAsk, CandidatesLeave}
 
 -- at the candidate j the queue ends at place r of the strip Q
 pub record Trying (s : Start) (i : ℕ) (q : Part) (c t : ℕ) (m₀ Q m : List ℕ) (r j u : ℕ) : Type 0 where
@@ -49,7 +48,7 @@ module _ {s : Start} {i : ℕ} {q : Part} {c t : ℕ} {m₀ : List ℕ} (a : Can
     pub trying_length : length m ≡ length m₀
     trying_length = running_length _ t m₀ m u g.run
 
-    done : (text_at s).lines.line i j < s.limits.lmin → CandidatesLeave s i q c t m₀ (record { at = r; candidate = j; moves = u }) Q m
+    done : (text_at s).lines.line i j < s.limits.lmin → CandidatesLeave s i q c t m₀ m (part Q q.from r) j u
     unfolding text_in
     done short = record {
       same = g.same;
@@ -60,7 +59,7 @@ module _ {s : Start} {i : ℕ} {q : Part} {c t : ℕ} {m₀ : List ℕ} (a : Can
     }
 
     -- the candidate is the start itself, or before it
-    pub trying_end : j ≤ i → CandidatesLeave s i q c t m₀ (record { at = r; candidate = j; moves = u }) Q m
+    pub trying_end : j ≤ i → CandidatesLeave s i q c t m₀ m (part Q q.from r) j u
     trying_end h =
         done (omega (
           arith,
@@ -84,22 +83,10 @@ module _ {s : Start} {i : ℕ} {q : Part} {c t : ℕ} {m₀ : List ℕ} (a : Can
         end_is = ap (λ (b : Break). b.end) read
 
         -- its line is too short
-        pub trying_stop : new.end < s.measure.near → CandidatesLeave s i q c t m₀ (record { at = r; candidate = j; moves = u }) Q m
+        pub trying_stop : new.end < s.measure.near → CandidatesLeave s i q c t m₀ m (part Q q.from r) j u
         trying_stop short = done (omega (arith, line, end_is, a.readable.placed.near))
 
         module _ (reach : s.measure.near ≤ new.end) where
-          pub trying_asks : ConsiderAsks s j new now u (length m)
-          trying_asks = record {
-            readable = rw g.same a.readable;
-            queued = g.queued;
-            later = omega (arith, a.first);
-            read = read;
-            within = trying_index.within;
-            reach = reach;
-            known = rw (ap (λ (b : Break). b.best) read) known;
-            enough = omega (arith, g.enough, trying_length, a.first);
-          }
-
           -- if it is added it is inside the measure
           inside : (text_at s).lines.line i j ≤ s.limits.lmax → Has ((text_at s).best j) → Inside s j
           unfolding text_in cost_of
@@ -126,20 +113,20 @@ module _ {s : Start} {i : ℕ} {q : Part} {c t : ℕ} {m₀ : List ℕ} (a : Can
               consider_gives (text_at s) i j (listed now) (λ (t : Taken (List ℕ)). Falls t.stands) (λ pass. g.queued.falls)
               (λ high has. add_falls (text_at s) i j (listed now) g.queued.below g.queued.falls)
 
-          pub trying_more : {o : Reached} {Q' n : List ℕ} → Considers s j now u m o Q' n →
-              Trying s i q c t m₀ Q' n o.at (j - 1) o.moves
+          pub trying_more : {o v : ℕ} {Q' n : List ℕ} → Considers s j now u m o v Q' n →
+              Trying s i q c t m₀ Q' n o (j - 1) v
           unfolding text_in
-          trying_more {o} {Q'} {n} d =
+          trying_more {o} {v} {Q'} {n} d =
               let rule : Taken (List ℕ) = consider (text_at s) i j (listed now) in
               let ran = d.ran i after in
-              let standing : o.at ≤ length Q' = omega (arith, d.high, d.same, g.queued.place, a.first) in
+              let standing : o ≤ length Q' = omega (arith, d.high, d.same, g.queued.place, a.first) in
               let count = consider_count (text_at s) i j (listed now) in
               let stood : length (listed now) ≡ r - q.from = length-slice q.from r Q g.queued.standing in
-              let stands : length rule.stands ≡ o.at - q.from = ap length ran.stands ∙ length-slice q.from o.at Q' standing in
-              let room : o.moves + (o.at - q.from) + 2 * (j - 1 - 1) ≤ length m₀ = omega (arith, ran.count, g.enough, a.first) in
+              let stands : length rule.stands ≡ o - q.from = ap length ran.stands ∙ length-slice q.from o Q' standing in
+              let room : v + (o - q.from) + 2 * (j - 1 - 1) ≤ length m₀ = omega (arith, ran.count, g.enough, a.first) in
               let lower = every_map (λ (k : ℕ). j < k) (λ (k : ℕ). j - 1 < k) (λ k h. omega arith) (listed now) g.queued.below in
               record {
-                run = running_rule _ t m₀ m u rule (candidates (text_at s) i (j - 1)) n o.moves (listed (part Q' q.from o.at))
+                run = running_rule _ t m₀ m u rule (candidates (text_at s) i (j - 1)) n v (listed (part Q' q.from o))
                     (running_same _ t m₀ m u
                     (candidates_more (text_at s) i (j - 1) j (listed now) (omega arith)
                     (omega (arith, line, end_is, a.readable.placed.near)))

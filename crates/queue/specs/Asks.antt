@@ -5,27 +5,49 @@ use Rattle.laws.specs.Members.{Every, Falls}
 use Rattle.laws.specs.Part.{Part, part, listed, Each}
 use Rattle.paper.specs.declared.Limits.{Limits}
 use Rattle.paper_theory.specs.Ranges.{Ranges}
-use Rattle.paper.specs.declared.Kind.TheVariants.{Pass}
-use Rattle.paper.specs.Moves.{Taken, move, moved, still}
+use Rattle.paper.specs.Moves.{Taken}
 use Rattle.paper.specs.QueueRules.{Text, Standing, F, bridged, drop_long, pop_worse, pop_bridged, drop_worse, front_best}
 use Rattle.paper.specs.QueueRules.{add, consider, candidates, at_start}
 use Rattle.paper.specs.Strips.{best_entry}
 use Rattle.lines.specs.declared.Break.{Break}
 use Rattle.lines.specs.declared.Measure.{Measure}
 use Rattle.lines.specs.Held.{begins, break_in, text_in, cost_at, bridged_at}
-use Rattle.lines.specs.Asks.{costliest, Rising, Placed, Indexed, Three}
+use Rattle.lines.specs.Asks.{costliest, Rising, Placed, Indexed, Through, Three}
 use Rattle.strips.specs.Running.{Ran}
-use Rattle.strips.specs.declared.Reached.{Reached}
 use Rattle.queue.specs.declared.Queue.{Queue}
-use Rattle.queue.specs.declared.Front.{Front}
-use Rattle.queue.specs.declared.Rear.{Rear}
+use Rattle.queue.specs.declared.reading.Reading.{Reading}
+
+-- ---- what the rules of a start read
+pub record Start : Type 0 where
+  pub limits : Limits
+  pub measure : Measure
+  pub ends : List ℕ
+  pub best : List ℕ
+
+abbrev pub start : Limits → Measure → List ℕ → List ℕ → Start
+start l p E B = record { limits = l; measure = p; ends = E; best = B }
+
+abbrev pub text_at : Start → Text
+text_at s = text_in s.limits s.ends s.best (begins s.limits s.measure)
+
+-- what the code reads, and of it break k and F of it
+abbrev pub read : Reading → Start
+read r = start r.limits r.measure r.ends.now r.best.now
+
+abbrev pub break_at : Start → ℕ → Break
+break_at s k = break_in s.ends s.best k
+
+abbrev pub through_at : Start → ℕ → ℕ
+through_at s k = cost_at s.limits s.measure.goal (break_at s k)
+
+abbrev pub Costed : Start → ℕ → Type 0
+Costed s k = Through s.limits s.measure.goal s.ends s.best k
 
 -- ---- one rule: members leave at an end of the queue, a move each
 -- of each member P holds, and the moves have room
 pub record ShedAsks (P : ℕ → Type 0) (q : Part) (t room : ℕ) : Type 0 where
   pub order : q.from ≤ q.to
   pub standing : q.to ≤ length q.strip
-  pub short : length q.strip ≤ 4096
   pub enough : t + (q.to - q.from) ≤ room
   pub each : Each P q
   pub index : Each (λ (k : ℕ). k ≤ 4097) q
@@ -56,65 +78,50 @@ pub record LongAt (E : List ℕ) (far : ℕ) (q : Part) : Type 0 where
   pub start : ℕ
   pub each : Each (Past E far text start) q
 
-pub record LongDropped (E : List ℕ) (far : ℕ) (q : Part) (t : ℕ) (m₀ m : List ℕ) (r : Reached) : Type 0 where
-  pub dropped : Dropped (λ (x : LongAt E far q). drop_long x.text x.start (listed q)) q t m₀ m r.at r.moves
-  pub short : r.at < q.to → get_or E (get_or q.strip r.at 0 - 1) 0 ≤ far
+pub record LongDropped (E : List ℕ) (far : ℕ) (q : Part) (t : ℕ) (m₀ m : List ℕ) (r u : ℕ) : Type 0 where
+  pub dropped : Dropped (λ (x : LongAt E far q). drop_long x.text x.start (listed q)) q t m₀ m r u
+  pub short : r < q.to → get_or E (get_or q.strip r 0 - 1) 0 ≤ far
 
 -- ---- rule 3
 -- the numbers are F of the breaks
-pub record CostsAt (l : Limits) (goal : ℕ) (E B : List ℕ) (q : Part) : Type 0 where
+pub record CostsAt (s : Start) (q : Part) : Type 0 where
   pub text : Text
   pub start : ℕ
-  pub each : Each (λ (k : ℕ). cost_at l goal (break_in E B k) ≡ F text start k) q
+  pub each : Each (λ (k : ℕ). through_at s k ≡ F text start k) q
 
-pub record WorseDropped (l : Limits) (goal : ℕ) (E B : List ℕ) (q : Part) (t : ℕ) (m₀ m : List ℕ) (r : Front) : Type 0 where
-  pub dropped : Dropped (λ (x : CostsAt l goal E B q). drop_worse x.text x.start (listed q)) q t m₀ m r.at r.moves
-  pub cost : (x : CostsAt l goal E B q) → r.cost ≡ best_entry (front_best x.text x.start (listed (part q.strip r.at q.to)))
-  pub number : r.at < q.to → r.cost < 2 ^ 64 - 1
+pub record WorseDropped (s : Start) (q : Part) (t : ℕ) (m₀ m : List ℕ) (r cost u : ℕ) : Type 0 where
+  pub dropped : Dropped (λ (x : CostsAt s q). drop_worse x.text x.start (listed q)) q t m₀ m r u
+  pub is : (x : CostsAt s q) → cost ≡ best_entry (front_best x.text x.start (listed (part q.strip r q.to)))
+  pub number : r < q.to → cost < 2 ^ 64 - 1
 
 -- ---- rule 2, the pops
 -- and `cost` is F of a candidate
-pub record NewAt (l : Limits) (goal : ℕ) (E B : List ℕ) (cost : ℕ) (q : Part) : Type 0 where
-  pub costs : CostsAt l goal E B q
+pub record NewAt (s : Start) (cost : ℕ) (q : Part) : Type 0 where
+  pub costs : CostsAt s q
   pub candidate : ℕ
   pub is : cost ≡ F costs.text costs.start candidate
 
-abbrev pub WorsePopped : Limits → ℕ → List ℕ → List ℕ → ℕ → Part → ℕ → List ℕ → List ℕ → Reached → Type 0
-WorsePopped l goal E B cost q t m₀ m r =
-    Popped (λ (x : NewAt l goal E B cost q). pop_worse x.costs.text x.costs.start x.candidate (reverse (listed q))) q t m₀ m
-    r.at r.moves
+abbrev pub WorsePopped : Start → ℕ → Part → ℕ → List ℕ → List ℕ → ℕ → ℕ → Type 0
+WorsePopped s cost q =
+    Popped (λ (x : NewAt s cost q). pop_worse x.costs.text x.costs.start x.candidate (reverse (listed q))) q
 
-pub record PopBridgedAsks (l : Limits) (E B : List ℕ) (new : Break) (q : Part) (t room : ℕ) : Type 0 where
-  pub shed : ShedAsks (Indexed E) q t room
-  pub same : length B ≡ length E
+pub record PopBridgedAsks (s : Start) (new : Break) (q : Part) (t room : ℕ) : Type 0 where
+  pub shed : ShedAsks (Indexed s.ends) q t room
   pub threes : (a : ℕ) → q.from ≤ a → a + 1 < q.to →
-      Three l new (break_in E B (get_or q.strip (a + 1) 0)) (break_in E B (get_or q.strip a 0))
+      Three s.limits new (break_at s (get_or q.strip (a + 1) 0)) (break_at s (get_or q.strip a 0))
 
 -- the test on numbers is that of the text
-pub record BridgesAt (l : Limits) (E B : List ℕ) (new : Break) (q : Part) : Type 0 where
+pub record BridgesAt (s : Start) (new : Break) (q : Part) : Type 0 where
   pub text : Text
   pub candidate : ℕ
   pub each : (a : ℕ) → q.from ≤ a → a + 1 < q.to →
-      bridged_at l new (break_in E B (get_or q.strip (a + 1) 0)) (break_in E B (get_or q.strip a 0)) ≡
+      bridged_at s.limits new (break_at s (get_or q.strip (a + 1) 0)) (break_at s (get_or q.strip a 0)) ≡
       bridged text candidate (get_or q.strip (a + 1) 0) (get_or q.strip a 0)
 
-abbrev pub BridgedPopped : Limits → List ℕ → List ℕ → Break → Part → ℕ → List ℕ → List ℕ → Reached → Type 0
-BridgedPopped l E B new q t m₀ m r =
-    Popped (λ (x : BridgesAt l E B new q). pop_bridged x.text x.candidate (reverse (listed q))) q t m₀ m r.at r.moves
+abbrev pub BridgedPopped : Start → Break → Part → ℕ → List ℕ → List ℕ → ℕ → ℕ → Type 0
+BridgedPopped s new q = Popped (λ (x : BridgesAt s new q). pop_bridged x.text x.candidate (reverse (listed q))) q
 
--- ---- what the rules of a start read
-pub record Start : Type 0 where
-  pub limits : Limits
-  pub measure : Measure
-  pub ends : List ℕ
-  pub best : List ℕ
-
-abbrev pub start : Limits → Measure → List ℕ → List ℕ → Start
-start l p E B = record { limits = l; measure = p; ends = E; best = B }
-
-abbrev pub text_at : Start → Text
-text_at s = text_in s.limits s.ends s.best (begins s.limits s.measure)
-
+-- ---- what the rules of a start meet
 -- ends and bests of n words
 pub record Readable (s : Start) (n : ℕ) : Type 0 where
   pub ranges : Ranges s.limits
@@ -167,11 +174,6 @@ pub record AddAsks (s : Start) (j : ℕ) (new : Break) (q : Part) (t room : ℕ)
   pub high : new.end ≤ s.measure.far
   pub number : new.best < costliest
 
--- the candidate j was passed: any queue ends at place e as before
-pub record Passes (j e t : ℕ) (m₀ m : List ℕ) (r : Reached) : Type 0 where
-  pub ran : (q : List ℕ) → Ran (moved (move Pass j) (still q)) t m₀ m r.moves q
-  pub stays : r.at ≡ e
-
 -- the candidate j was passed or added, at any start before it
 pub record Tried (rule : ℕ → Taken (List ℕ)) (j : ℕ) (q₀ q : Part) (t : ℕ) (m₀ m : List ℕ) (u : ℕ) : Type 0 where
   pub low : q.from ≤ q.to
@@ -179,11 +181,12 @@ pub record Tried (rule : ℕ → Taken (List ℕ)) (j : ℕ) (q₀ q : Part) (t 
   pub same : length q.strip ≡ length q₀.strip
   pub ran : (i : ℕ) → i < j → Ran (rule i) t m₀ m u (listed q)
 
-abbrev pub Adds : Start → ℕ → Part → ℕ → List ℕ → Reached → List ℕ → List ℕ → Type 0
-Adds s j q t m₀ r Q m = Tried (λ i. add (text_at s) i j (listed q)) j q (part Q q.from r.at) t m₀ m r.moves
+-- it leaves the queue up to place e of the strip Q
+abbrev pub Adds : Start → ℕ → Part → ℕ → List ℕ → ℕ → ℕ → List ℕ → List ℕ → Type 0
+Adds s j q t m₀ e u Q m = Tried (λ i. add (text_at s) i j (listed q)) j q (part Q q.from e) t m₀ m u
 
-abbrev pub Considers : Start → ℕ → Part → ℕ → List ℕ → Reached → List ℕ → List ℕ → Type 0
-Considers s j q t m₀ r Q m = Tried (λ i. consider (text_at s) i j (listed q)) j q (part Q q.from r.at) t m₀ m r.moves
+abbrev pub Considers : Start → ℕ → Part → ℕ → List ℕ → ℕ → ℕ → List ℕ → List ℕ → Type 0
+Considers s j q t m₀ e u Q m = Tried (λ i. consider (text_at s) i j (listed q)) j q (part Q q.from e) t m₀ m u
 
 -- ---- rule 2 and all rules, at start i
 pub record RulesAsk (P : ℕ → Type 0) (s : Start) (i : ℕ) (q : Part) (c t room : ℕ) : Type 0 where
@@ -204,9 +207,8 @@ pub record RulesLeave (P : ℕ → Type 0) (i : ℕ) (rule : Taken Standing) (Q 
 abbrev pub CandidatesAsk : Start → ℕ → Part → ℕ → ℕ → ℕ → Type 0
 CandidatesAsk s i q c t room = RulesAsk (Inside s) s i q c t room
 
-abbrev pub CandidatesLeave : Start → ℕ → Part → ℕ → ℕ → List ℕ → Rear → List ℕ → List ℕ → Type 0
-CandidatesLeave s i q c t m₀ r Q m =
-    RulesLeave (Inside s) i (candidates (text_at s) i c (listed q)) q.strip t m₀ m (part Q q.from r.at) r.candidate r.moves
+abbrev pub CandidatesLeave : Start → ℕ → Part → ℕ → ℕ → List ℕ → List ℕ → Part → ℕ → ℕ → Type 0
+CandidatesLeave s i q c = RulesLeave (Inside s) i (candidates (text_at s) i c (listed q)) q.strip
 
 -- where the queue stands in the strip Q
 abbrev pub stood : List ℕ → Queue → Part

@@ -1,17 +1,20 @@
-// The queue rules of document 01, a start at a time. The queue stands in its strip from `front` up to `end`, and the start has taken
-// `count` moves. Workshop parts: they ask what their callers meet.
+// The queue rules of document 01, a start at a time. Workshop parts: they ask what their callers meet.
 #![tactic(auto)]
 
-ghost use Rattle.std.specs.Prelude.{length, ◌≤◌, ◌<◌};
-ghost use Rattle.laws.specs.Part.{part};
-ghost use Rattle.lines.specs.Asks.{Indexed, Through};
-ghost use Rattle.queue.specs.Asks.{ShedAsks, LongDropped, WorseDropped, WorsePopped, PopBridgedAsks, BridgedPopped};
-ghost use Rattle.queue.specs.Asks.{start, AddAsks, ConsiderAsks, Passes, Adds, Considers};
-ghost use Rattle.queue.specs.Asks.{CandidatesAsk, CandidatesLeave, stood, StartAsks, StartLeaves};
+ghost use Rattle.std.specs.Prelude.{◌≡◌, ◌+◌, length, set};
+ghost use Rattle.paper.specs.Moves.{code, move};
+ghost use Rattle.strips.specs.Asks.{MoveAsk};
+ghost use Rattle.lines.specs.Asks.{Indexed};
+ghost use Rattle.queue.specs.Asks.{stood, ShedAsks, LongDropped, WorseDropped, WorsePopped, PopBridgedAsks, BridgedPopped};
+ghost use Rattle.queue.specs.Asks.{start, AddAsks, ConsiderAsks, Adds, Considers, CandidatesAsk, CandidatesLeave};
+ghost use Rattle.queue.specs.Asks.{read, Costed, StartAsks, StartLeaves};
 
-use lines::{Break, Measure, break_of, bridged, curve, end_of, through};
+use lines::{Break, Measure, bridged, curve, end_of};
 use paper::{Kind, Limits, Move};
-use strips::{NONE, Reached, put};
+use reading::Reading;
+use strips::{NONE, put};
+
+mod reading;
 
 // Where the queue stands in its strip, the next candidate, the moves taken so far, and what the front costs: NONE with an empty queue.
 #[derive(Clone, Copy)]
@@ -23,315 +26,139 @@ pub struct Queue {
     pub cost: u64,
 }
 
-// What rule 2 leaves: the place behind the rear, the next candidate, and the moves so far.
-#[derive(Clone, Copy)]
-struct Rear {
-    at: usize,
-    candidate: usize,
-    moves: usize,
-}
+impl Queue {
+    // Takes a move: it is written behind those taken so far.
+    fn take(&mut self, kind: Kind, index: u32, moves: &mut [u32])
+        requires { MoveAsk moves.old self.old.moves (move kind index) }
+        ensures written { moves.new ≡ set moves.old self.old.moves (code (move kind index)) }
+        ensures counted { self.new ≡ record self.old { moves = self.old.moves + 1 } }
+    {
+        put(moves, self.moves, Move { kind, index });
+        self.moves += 1;
+    }
 
-// What rule 3 leaves: the place of the front, what it costs, and the moves so far.
-#[derive(Clone, Copy)]
-struct Front {
-    at: usize,
-    cost: u64,
-    moves: usize,
-}
-
-// "1. While the front has Line > lmax: Drop it." Answers the place of the front.
-fn drop_long(
-    far: u32,
-    ends: &[u32],
-    queue: &[u32],
-    front: usize,
-    end: usize,
-    moves: &mut [u32],
-    count: usize,
-) -> Reached
-    requires { ShedAsks (Indexed ends.now) (part queue.now front end) count (length moves.old) }
-    ensures { LongDropped ends.now far (part queue.now front end) count
-        moves.old moves.new result }
-{
-    let mut at = front;
-    while at < end {
-        let j = queue[at];
-        if end_of(ends, j) <= far {
-            break;
+    // "1. While the front has Line > lmax: Drop it."
+    fn drop_long(&mut self, r: Reading, queue: &[u32], moves: &mut [u32])
+        requires { ShedAsks (Indexed r.ends.now) (stood queue.now self.old) self.old.moves (length moves.old) }
+        ensures rule { LongDropped r.entry.ends.now r.entry.measure.far (stood queue.now self.old) self.old.moves
+            moves.old moves.new self.new.front self.new.moves }
+        ensures stays { (self.new.end ≡ self.old.end) × (self.new.candidate ≡ self.old.candidate) }
+    {
+        'dropping: for j in &queue[self.front..self.end] {
+            if end_of(r.ends, *j) <= r.measure.far {
+                break;
+            }
+            self.take(Kind::Drop, *j, moves);
+            self.front += 1;
         }
-        put(
-            moves,
-            count + (at - front),
-            Move {
-                kind: Kind::Drop,
-                index: j,
-            },
-        );
-        at += 1;
     }
-    Reached {
-        at,
-        moves: count + (at - front),
-    }
-}
 
-// "Pop the rear while F(i, candidate) ≤ F(i, rear)". Answers the place behind the rear.
-fn pop_worse(
-    l: Limits,
-    goal: u32,
-    ends: &[u32],
-    best: &[u64],
-    queue: &[u32],
-    front: usize,
-    end: usize,
-    cost: u64,
-    moves: &mut [u32],
-    count: usize,
-) -> Reached
-    requires { ShedAsks (Through l goal ends.now best.now) (part queue.now front end) count (length moves.old) }
-    ensures { WorsePopped l goal ends.now best.now cost (part queue.now front end) count
-        moves.old moves.new result }
-{
-    let mut at = end;
-    let mut taken = count;
-    while front < at {
-        let k = queue[at - 1];
-        if through(l, goal, ends, best, k) < cost {
-            break;
+    // "Pop the rear while F(i, candidate) ≤ F(i, rear)".
+    fn pop_worse(&mut self, r: Reading, queue: &[u32], cost: u64, moves: &mut [u32])
+        requires { ShedAsks (Costed (read r)) (stood queue.now self.old) self.old.moves (length moves.old) }
+        ensures rule { WorsePopped (read r.entry) cost (stood queue.now self.old) self.old.moves
+            moves.old moves.new self.new.end self.new.moves }
+        ensures stays { (self.new.front ≡ self.old.front) × (self.new.candidate ≡ self.old.candidate) }
+    {
+        'popping: for rear in (self.front..self.end).rev() {
+            let k = queue[rear];
+            if r.through(k) < cost {
+                break;
+            }
+            self.take(Kind::Pop, k, moves);
+            self.end = rear;
         }
-        put(
-            moves,
-            taken,
-            Move {
-                kind: Kind::Pop,
-                index: k,
-            },
-        );
-        at -= 1;
-        taken += 1;
     }
-    Reached { at, moves: taken }
-}
 
-// "Pop the rear while two or more stand and the rear is bridged". Answers the place behind the rear.
-fn pop_bridged(
-    l: Limits,
-    ends: &[u32],
-    best: &[u64],
-    queue: &[u32],
-    front: usize,
-    end: usize,
-    new: Break,
-    moves: &mut [u32],
-    count: usize,
-) -> Reached
-    requires { PopBridgedAsks l ends.now best.now new (part queue.now front end) count (length moves.old) }
-    ensures { BridgedPopped l ends.now best.now new (part queue.now front end) count
-        moves.old moves.new result }
-{
-    let mut at = end;
-    let mut taken = count;
-    while front + 1 < at {
-        let k = queue[at - 1];
-        let n = queue[at - 2];
-        if !bridged(l, new, break_of(ends, best, k), break_of(ends, best, n)) {
-            break;
+    // "Pop the rear while two or more stand and the rear is bridged".
+    fn pop_bridged(&mut self, r: Reading, queue: &[u32], new: Break, moves: &mut [u32])
+        requires { PopBridgedAsks (read r) new (stood queue.now self.old) self.old.moves (length moves.old) }
+        ensures rule { BridgedPopped (read r.entry) new (stood queue.now self.old) self.old.moves
+            moves.old moves.new self.new.end self.new.moves }
+        ensures stays { (self.new.front ≡ self.old.front) × (self.new.candidate ≡ self.old.candidate) }
+    {
+        'popping: for rear in (self.front + 1..self.end).rev() {
+            let k = queue[rear];
+            let n = queue[rear - 1];
+            if !bridged(r.limits, new, r.at(k), r.at(n)) {
+                break;
+            }
+            self.take(Kind::Pop, k, moves);
+            self.end = rear;
         }
-        put(
-            moves,
-            taken,
-            Move {
-                kind: Kind::Pop,
-                index: k,
-            },
-        );
-        at -= 1;
-        taken += 1;
     }
-    Reached { at, moves: taken }
-}
 
-// "3. While two or more stand and F of the second is ≤ F of the front: Drop the front."
-fn drop_worse(
-    l: Limits,
-    goal: u32,
-    ends: &[u32],
-    best: &[u64],
-    queue: &[u32],
-    front: usize,
-    end: usize,
-    moves: &mut [u32],
-    count: usize,
-) -> Front
-    requires { ShedAsks (Through l goal ends.now best.now) (part queue.now front end) count (length moves.old) }
-    ensures { WorseDropped l goal ends.now best.now (part queue.now front end) count
-        moves.old moves.new result }
-{
-    if end <= front {
-        return Front {
-            at: front,
-            cost: NONE,
-            moves: count,
-        };
-    }
-    let mut at = front;
-    let mut taken = count;
-    let mut cost = through(l, goal, ends, best, queue[front]);
-    while at + 1 < end {
-        let second = through(l, goal, ends, best, queue[at + 1]);
-        if cost < second {
-            break;
+    // "3. While two or more stand and F of the second is ≤ F of the front: Drop the front."
+    fn drop_worse(&mut self, r: Reading, queue: &[u32], moves: &mut [u32])
+        requires { ShedAsks (Costed (read r)) (stood queue.now self.old) self.old.moves (length moves.old) }
+        ensures rule { WorseDropped (read r.entry) (stood queue.now self.old) self.old.moves
+            moves.old moves.new self.new.front self.new.cost self.new.moves }
+        ensures stays { (self.new.end ≡ self.old.end) × (self.new.candidate ≡ self.old.candidate) }
+    {
+        if self.end <= self.front {
+            self.cost = NONE;
+            return;
         }
-        put(
-            moves,
-            taken,
-            Move {
-                kind: Kind::Drop,
-                index: queue[at],
-            },
-        );
-        cost = second;
-        at += 1;
-        taken += 1;
-    }
-    Front {
-        at,
-        cost,
-        moves: taken,
-    }
-}
-
-// A candidate is passed. It leaves the queue as it is.
-fn pass(j: usize, end: usize, moves: &mut [u32], count: usize) -> Reached
-    requires { (count < length moves.old) × (j ≤ 4097) }
-    ensures { Passes j end count moves.old moves.new result }
-{
-    put(
-        moves,
-        count,
-        Move {
-            kind: Kind::Pass,
-            index: j as u32,
-        },
-    );
-    Reached {
-        at: end,
-        moves: count + 1,
-    }
-}
-
-// The rear is popped twice over, and the candidate added.
-fn add(
-    l: Limits,
-    p: Measure,
-    ends: &[u32],
-    best: &[u64],
-    queue: &mut [u32],
-    front: usize,
-    end: usize,
-    j: usize,
-    new: Break,
-    moves: &mut [u32],
-    count: usize,
-) -> Reached
-    requires { AddAsks (start l p ends.now best.now) j new (part queue.old front end) count (length moves.old) }
-    ensures { Adds (start l p ends.now best.now) j (part queue.old front end) count
-        moves.old result queue.new moves.new }
-{
-    let cost = curve(l, p.goal, new);
-    let worse = pop_worse(l, p.goal, ends, best, queue, front, end, cost, moves, count);
-    let rear = pop_bridged(
-        l,
-        ends,
-        best,
-        queue,
-        front,
-        worse.at,
-        new,
-        moves,
-        worse.moves,
-    );
-    let at = rear.at;
-    let taken = rear.moves;
-    let index = j as u32;
-    queue[at] = index;
-    put(
-        moves,
-        taken,
-        Move {
-            kind: Kind::Add,
-            index,
-        },
-    );
-    Reached {
-        at: at + 1,
-        moves: taken + 1,
-    }
-}
-
-// "if it is above lmax, or the candidate has no setting, Pass it. Otherwise" pop and add.
-fn consider(
-    l: Limits,
-    p: Measure,
-    ends: &[u32],
-    best: &[u64],
-    queue: &mut [u32],
-    front: usize,
-    end: usize,
-    j: usize,
-    new: Break,
-    moves: &mut [u32],
-    count: usize,
-) -> Reached
-    requires { ConsiderAsks (start l p ends.now best.now) j new (part queue.old front end) count (length moves.old) }
-    ensures { Considers (start l p ends.now best.now) j (part queue.old front end) count
-        moves.old result queue.new moves.new }
-{
-    if p.far < new.end {
-        return pass(j, end, moves, count);
-    }
-    if new.best == NONE {
-        return pass(j, end, moves, count);
-    }
-    add(l, p, ends, best, queue, front, end, j, new, moves, count)
-}
-
-// "2. While Line(i, candidate) ≥ lmin: [..] The candidate then falls by one."
-fn candidates(
-    l: Limits,
-    i: usize,
-    p: Measure,
-    ends: &[u32],
-    best: &[u64],
-    queue: &mut [u32],
-    front: usize,
-    end: usize,
-    candidate: usize,
-    moves: &mut [u32],
-    count: usize,
-) -> Rear
-    requires { CandidatesAsk (start l p ends.now best.now) i (part queue.old front end) candidate count (length moves.old) }
-    ensures { CandidatesLeave (start l p ends.now best.now) i (part queue.old front end)
-        candidate count
-        moves.old result queue.new moves.new }
-{
-    let mut rear = end;
-    let mut j = candidate;
-    let mut taken = count;
-    while i < j {
-        let new = break_of(ends, best, j as u32);
-        if new.end < p.near {
-            break;
+        self.cost = r.through(queue[self.front]);
+        'dropping: for pair in queue[self.front..self.end].windows(2) {
+            let second = r.through(pair[1]);
+            if self.cost < second {
+                break;
+            }
+            self.take(Kind::Drop, pair[0], moves);
+            self.cost = second;
+            self.front += 1;
         }
-        let more = consider(l, p, ends, best, queue, front, rear, j, new, moves, taken);
-        rear = more.at;
-        taken = more.moves;
-        j -= 1;
     }
-    Rear {
-        at: rear,
-        candidate: j,
-        moves: taken,
+
+    // The rear is popped twice over, and the candidate added.
+    fn add(&mut self, r: Reading, queue: &mut [u32], new: Break, moves: &mut [u32])
+        requires { AddAsks (read r) self.old.candidate new (stood queue.old self.old)
+            self.old.moves (length moves.old) }
+        ensures rule { Adds (read r.entry) self.old.candidate (stood queue.old self.old) self.old.moves
+            moves.old self.new.end self.new.moves queue.new moves.new }
+        ensures stays { (self.new.front ≡ self.old.front) × (self.new.candidate ≡ self.old.candidate) }
+    {
+        let index = self.candidate as u32;
+        let cost = curve(r.limits, r.measure.goal, new);
+        self.pop_worse(r, queue, cost, moves);
+        self.pop_bridged(r, queue, new, moves);
+        queue[self.end] = index;
+        self.end += 1;
+        self.take(Kind::Add, index, moves);
+    }
+
+    // "if it is above lmax, or the candidate has no setting, Pass it. Otherwise" pop and add.
+    fn consider(&mut self, r: Reading, queue: &mut [u32], new: Break, moves: &mut [u32])
+        requires { ConsiderAsks (read r) self.old.candidate new (stood queue.old self.old)
+            self.old.moves (length moves.old) }
+        ensures rule { Considers (read r.entry) self.old.candidate (stood queue.old self.old) self.old.moves
+            moves.old self.new.end self.new.moves queue.new moves.new }
+        ensures stays { (self.new.front ≡ self.old.front) × (self.new.candidate ≡ self.old.candidate) }
+    {
+        if r.measure.far < new.end || new.best == NONE {
+            self.take(Kind::Pass, self.candidate as u32, moves);
+            return;
+        }
+        self.add(r, queue, new, moves);
+    }
+
+    // "2. While Line(i, candidate) ≥ lmin: [..] The candidate then falls by one."
+    fn candidates(&mut self, r: Reading, i: usize, queue: &mut [u32], moves: &mut [u32])
+        requires { CandidatesAsk (read r) i (stood queue.old self.old) self.old.candidate
+            self.old.moves (length moves.old) }
+        ensures rule { CandidatesLeave (read r.entry) i (stood queue.old self.old) self.old.candidate
+            self.old.moves moves.old moves.new (stood queue.new self.new) self.new.candidate self.new.moves }
+        ensures stays { self.new.front ≡ self.old.front }
+    {
+        'falling: while i < self.candidate {
+            let new = r.at(self.candidate as u32);
+            if new.end < r.measure.near {
+                break;
+            }
+            self.consider(r, queue, new, moves);
+            self.candidate -= 1;
+        }
     }
 }
 
@@ -350,28 +177,15 @@ pub fn at_start(
     ensures { StartLeaves (start l p ends.now best.now) i (stood queue.old q) q.candidate
         moves.old result queue.new moves.new }
 {
-    let long = drop_long(p.far, ends, queue, q.front, q.end, moves, 0);
-    let rear = candidates(
-        l,
-        i,
-        p,
+    let r = Reading {
+        limits: l,
+        measure: p,
         ends,
         best,
-        queue,
-        long.at,
-        q.end,
-        q.candidate,
-        moves,
-        long.moves,
-    );
-    let lead = drop_worse(
-        l, p.goal, ends, best, queue, long.at, rear.at, moves, rear.moves,
-    );
-    Queue {
-        front: lead.at,
-        end: rear.at,
-        candidate: rear.candidate,
-        moves: lead.moves,
-        cost: lead.cost,
-    }
+    };
+    let mut at = Queue { moves: 0, ..q };
+    at.drop_long(r, queue, moves);
+    at.candidates(r, i, queue, moves);
+    at.drop_worse(r, queue, moves);
+    at
 }

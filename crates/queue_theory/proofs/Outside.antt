@@ -3,7 +3,7 @@ use Rattle.std.specs.Prelude.{ℕ, ◌≤◌, ◌≡◌, List, length}
 use Rattle.laws.specs.Members.{Every, every_map}
 use Rattle.laws.specs.Number.{is_true}
 use Rattle.paper.specs.declared.Limits.{Limits}
-use Rattle.paper.specs.declared.Penalty.TheVariants.{Of}
+use Rattle.std.specs.Prelude.{Ok, Some}
 use Rattle.paper.specs.Allowed.{limits_hold, ParagraphPassed}
 use Rattle.paper.specs.Lines.{Inside}
 use Rattle.paper.specs.Paragraph.{penalty}
@@ -15,8 +15,8 @@ use Rattle.queue_theory.proofs.Paragraph.{inside_the_measure}
 module _ (l : Limits) (ws : List ℕ) (passed : ParagraphPassed l ws) where
   module _ (i : ℕ) (start : 1 ≤ i) (early : i ≤ length ws) where
     -- "The breaker never meets "outside" where the queue rules apply the formula": asked for alone, each is given its number.
-    pub never_outside : Every (λ (x : ℕ). penalty_alone l x ≡ Of (penalty l x)) (applied l ws i)
+    pub never_outside : Every (λ (x : ℕ). penalty_alone l x ≡ Ok (Some (penalty l x))) (applied l ws i)
     never_outside =
-        every_map (Inside l.lmin l.lmax) (λ (x : ℕ). penalty_alone l x ≡ Of (penalty l x))
+        every_map (Inside l.lmin l.lmax) (λ (x : ℕ). penalty_alone l x ≡ Ok (Some (penalty l x)))
         (λ x h. alone_inside l x (is_true (limits_hold l) passed.limits) h.0 h.1) (applied l ws i)
         (inside_the_measure l ws passed i start early)

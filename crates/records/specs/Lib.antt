@@ -1,1 +1,1 @@
-pub mod Place
+pub mod Records

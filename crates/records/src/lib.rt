@@ -1,45 +1,35 @@
-// A file of jobs for the vectors: records one after the other, each a size of 2 bytes, low byte first, and a job of so many bytes.
+// A file of jobs for the vectors: records one after the other, each a size of 2 bytes, low byte first, and so many bytes.
 #![tactic(auto)]
 
-ghost use Rattle.std.specs.Prelude.{◌+◌, ◌≤◌, ◌<◌, length};
-ghost use Rattle.records.specs.Place.{RecordIn};
+ghost use Rattle.std.specs.Prelude.{◌≡◌, ◌+◌, ◌<◌, length};
+ghost use Rattle.records.specs.Records.{SplitsShort};
 
-// Where a record's job begins, and where the next record begins.
-#[derive(Clone, Copy)]
-pub struct Record {
-    pub from: usize,
-    pub end: usize,
+// The number of the first 2 bytes, low byte first, and the bytes after them.
+pub fn split_short(bytes: &[u8]) -> Option<(u16, &[u8])>
+    ensures { SplitsShort bytes.now result }
+{
+    let (short, rest) = bytes.split_first_chunk()?;
+    Some((u16::from_le_bytes(*short), rest))
 }
 
-fn wide(b: u8) -> u32
-    ensures { result < 256 }
-{
-    b as u32
-}
+// The records of a file, or of what is left of it. One that the file cuts off ends with the file.
+#[derive(Clone, Debug, Drop)]
+pub struct Records<'a>(pub &'a [u8]);
 
-// The number of 2 bytes at a place, low byte first.
-pub fn short(file: &[u8], at: usize) -> u32
-    requires { at + 2 ≤ length file.now }
-    ensures { result < 65536 }
-{
-    wide(file[at]) + 256 * wide(file[at + 1])
-}
+impl<'a> Iterator for Records<'a> {
+    type Item = &'a [u8];
 
-// The record at a place. A job that the file cuts off ends with the file.
-pub fn record_at(file: &[u8], at: usize) -> Record
-    requires { at + 2 ≤ length file.now }
-    ensures { RecordIn file.now at result }
-{
-    let from = at + 2;
-    let size = short(file, at) as usize;
-    if file.len() - from < size {
-        return Record {
-            from,
-            end: file.len(),
-        };
-    }
-    Record {
-        from,
-        end: from + size,
+    ghost use Rattle.std.specs.Iterator.{at_most};
+    ghost use Rattle.records.specs.Records.{TakesFirst};
+
+    ghost next_gives = { λ s r t. TakesFirst s.0.now r t.0.now };
+
+    ghost remaining = { λ s. at_most (length s.0.now) };
+
+    fn next(&mut self) -> Option<&'a [u8]> {
+        let (size, rest) = split_short(self.0)?;
+        let (record, after) = rest.split_at(rest.len().min(usize::from(size)));
+        self.0 = after;
+        Some(record)
     }
 }

@@ -1,53 +1,74 @@
--- One turn of a loop that looks for the first entry that fails, or for whether any does. Assumes nothing.
-use Prim.Native.Nat.{ℕ, ◌+◌, ◌≤◌, ◌<◌}
-use mathlib.Core.Path.{◌≡◌, sym}
-use mathlib.Core.Bool.{Bool, true, false, ◌&&◌, and-true, and-false}
-use mathlib.Core.List.{List}
-use native.Mathlib.Numerals.{add-one}
-use native.Mathlib.Omega.{arith}
-use borrow.Author.Tests.{le-leb, lt-leb, ne_eqb}
-use lib.Dec.{eqb}
-use lib.ListN.{length, get_or, drop, drop_of_length-le}
-use lib.Seq.{drop-cons}
-use Rattle.laws.specs.Number.{when_true, when_false}
+-- What the library's searches of a list find is what 01's numbers of a first entry say. Assumes nothing.
+use Rattle.std.proofs.Common.{ℕ, ◌+◌, ◌≤◌, ◌≡◌, refl, sym, ◌∙◌, Bool, true, false, not, ◌&&◌, cond, eqb, ltb, leb, List, [], ◌∷◌, Option, Some, None, nat_lt, suc, ap, add-one, le-ltb, lt-ltb, inl, inr}
+use Rattle.std.proofs.Common.{arith, ne_eqb}
+use Rattle.std.proofs.lemmas.Bool.Decides.{leb_tells}
+use Rattle.std.specs.List.{fold, position, position_from}
+use Rattle.std.proofs.lemmas.List.Folds.{fold_stays}
+use Rattle.std.proofs.lemmas.Iterator.Adapters.{position_from-zero}
 use Rattle.paper.specs.Told.{first_failing, first_short}
+use Rattle.refusals.specs.Checks.{has_of, needs_of}
 
--- where the loop stands at entry k, what is left to look for
-module _ (ws : List ℕ) (k : ℕ) (ok : ℕ → Bool) where
-  pub failing_here : k < length ws → ok (get_or ws k 0) ≡ false → first_failing ok (k + 1) (drop k ws) ≡ k + 1
+-- a place from 0 on as a number from 1 on, 0 for none
+number_of : Option ℕ → ℕ
+number_of None = 0
+number_of (Some k) = k + 1
+
+-- the first entry that a test finds, where the test is true of just those entries that fail
+module _ {A : Type 0} (bad ok : A → Bool) (e : (x : A) → bad x ≡ not (ok x)) where
+  from_place : (i : ℕ) (xs : List A) → number_of (position_from bad i xs) ≡ first_failing ok (suc i) xs
+  unfolding number_of first_failing
+  from_place i [] = refl
+  from_place i (x ∷ xs) = rw (e x) (go (ok x) (from_place (suc i) xs))
+    where
+      go : (b : Bool) → number_of (position_from bad (suc i) xs) ≡ first_failing ok (suc (suc i)) xs →
+          ◌≡◌ {A = ℕ} (number_of (cond (not b) (Some i) (position_from bad (i + 1) xs)))
+          (elim b [ true ↦ first_failing ok (suc (suc i)) xs | false ↦ suc i ])
+      go true later = rw (add-one i) later
+      go false later = add-one i
+
+  place : (xs : List A) → number_of (position bad xs) ≡ first_failing ok 1 xs
+  place xs = rw (position_from-zero bad xs) (from_place 0 xs)
+
+  pub failing_at : (xs : List A) {k : ℕ} → position bad xs ≡ Some k → first_failing ok 1 xs ≡ k + 1
+  unfolding number_of
+  failing_at xs f = sym (place xs) ∙ (rw f)
+
+  pub failing_never : (xs : List A) → position bad xs ≡ None → first_failing ok 1 xs ≡ 0
+  unfolding number_of
+  failing_never xs f = sym (place xs) ∙ (rw f)
+
+-- whether all entries pass a test
+module _ {A : Type 0} (ok : A → Bool) where
+  failing_low : (i : ℕ) (xs : List A) → 1 ≤ i → fold (λ hold x. hold && ok x) true xs ≡ eqb (first_failing ok i xs) 0
   unfolding first_failing
-  failing_here h e = rw (drop-cons ws k 0 h) (when_false _ _ _ e)
+  failing_low i [] h = refl
+  failing_low i (x ∷ xs) h = go (ok x) (failing_low (suc i) xs (omega arith))
+    where
+      go : (b : Bool) → fold (λ hold x. hold && ok x) true xs ≡ eqb (first_failing ok (suc i) xs) 0 →
+          fold (λ hold x. hold && ok x) b xs ≡ eqb (elim b as (λ _. ℕ) [ true ↦ first_failing ok (suc i) xs | false ↦ i ]) 0
+      go true later = later
+      go false later = fold_stays _ _ (λ x. refl) xs ∙ sym (ne_eqb i 0 (λ z. omega arith))
 
-  pub failing_later : k < length ws → ok (get_or ws k 0) ≡ true →
-      first_failing ok (k + 1) (drop k ws) ≡ first_failing ok (k + 1 + 1) (drop (k + 1) ws)
-  unfolding first_failing
-  failing_later h e = rw (drop-cons ws k 0 h, add-one (k + 1), add-one k) (when_true _ _ _ e)
+  pub all_failing : (xs : List A) → fold (λ hold x. hold && ok x) true xs ≡ eqb (first_failing ok 1 xs) 0
+  all_failing xs = failing_low 1 xs (omega arith)
 
-  pub failing_never : length ws ≤ k → first_failing ok (k + 1) (drop k ws) ≡ 0
-  unfolding first_failing
-  failing_never h = rw (drop_of_length-le ws {i = k} h)
+-- ---- the strips' numbers are those of a list of what each has and needs
+roomy : ℕ × ℕ → Bool
+roomy s = leb s.1 s.0
 
--- where the loop stands at entry k, and `hold` says whether all before it held
-module _ (ws : List ℕ) (k : ℕ) (ok : ℕ → Bool) (hold : Bool) where
-  pub all_more : (this : Bool) → k < length ws → this ≡ ok (get_or ws k 0) →
-      ((hold && this) && eqb (first_failing ok (k + 1 + 1) (drop (k + 1) ws)) 0) ≡ (hold && eqb (first_failing ok (k + 1) (drop k ws)) 0)
-  all_more true h e = rw (failing_later ws k ok h (sym e), and-true hold)
-  all_more false h e = rw (failing_here ws k ok h (sym e), ne_eqb (k + 1) 0 (λ z. omega arith), and-false hold)
+short : (s : ℕ × ℕ) → nat_lt s.0 s.1 ≡ not (roomy s)
+unfolding roomy
+short s = elim (leb_tells s.1 s.0) [ inl (t, h) ↦ rw (t, le-ltb _ _ h) | inr (t, h) ↦ rw (t, lt-ltb _ _ h) ]
 
-  pub all_seen : length ws ≤ k → (hold && eqb (first_failing ok (k + 1) (drop k ws)) 0) ≡ hold
-  all_seen h = rw (failing_never ws k ok h) (and-true hold)
+short_is : (k : ℕ) (strips : List (ℕ × ℕ)) → first_short k (has_of strips) (needs_of strips) ≡ first_failing roomy k strips
+unfolding first_short first_failing roomy
+short_is k [] = refl
+short_is k (s ∷ strips) = ap (λ (later : ℕ). elim (leb s.1 s.0) as (λ _. ℕ) [ true ↦ later | false ↦ k ]) (short_is (suc k) strips)
 
-module _ (has needs : List ℕ) (k : ℕ) where
-  pub short_here : k < length has → k < length needs → get_or has k 0 < get_or needs k 0 →
-      first_short (k + 1) (drop k has) (drop k needs) ≡ k + 1
-  unfolding first_short
-  short_here h g e = rw (drop-cons has k 0 h, drop-cons needs k 0 g) (when_false _ _ _ (lt-leb _ _ e))
+module _ (strips : List (ℕ × ℕ)) where
+  pub short_at : {k : ℕ} → position (λ (s : ℕ × ℕ). nat_lt s.0 s.1) strips ≡ Some k →
+      first_short 1 (has_of strips) (needs_of strips) ≡ k + 1
+  short_at f = short_is 1 strips ∙ failing_at _ roomy short strips f
 
-  pub short_later : k < length has → k < length needs → get_or needs k 0 ≤ get_or has k 0 →
-      first_short (k + 1) (drop k has) (drop k needs) ≡ first_short (k + 1 + 1) (drop (k + 1) has) (drop (k + 1) needs)
-  unfolding first_short
-  short_later h g e = rw (drop-cons has k 0 h, drop-cons needs k 0 g, add-one (k + 1), add-one k) (when_true _ _ _ (le-leb _ _ e))
-
-  pub short_never : length has ≤ k → first_short (k + 1) (drop k has) (drop k needs) ≡ 0
-  unfolding first_short
-  short_never h = rw (drop_of_length-le has {i = k} h)
+  pub short_never : position (λ (s : ℕ × ℕ). nat_lt s.0 s.1) strips ≡ None → first_short 1 (has_of strips) (needs_of strips) ≡ 0
+  short_never f = short_is 1 strips ∙ failing_never _ roomy short strips f

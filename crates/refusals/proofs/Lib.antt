@@ -1,3 +1,2 @@
-pub mod First
-pub mod Limits
 pub mod Turns
+mod First

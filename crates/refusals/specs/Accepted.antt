@@ -3,7 +3,7 @@ use Rattle.std.specs.Prelude.{ℕ, suc, ◌≤◌, ◌≡◌, refl, Bool, true, 
 use Rattle.std.proofs.Common.{arith, leb-true}
 use Rattle.std.proofs.lemmas.Bool.{not-false}
 use Rattle.laws.specs.Number.{all}
-use Rattle.paper.specs.declared.Checked.TheVariants.{Accept}
+use Rattle.std.specs.Prelude.{Ok}
 use Rattle.paper.specs.Allowed.{length_holds, Passed}
 use Rattle.paper.specs.Told.{first_failing, first_short, itself, setter_checks, checked}
 use Rattle.refusals.specs.Checks.{none_found, refused_other}
@@ -41,7 +41,7 @@ pub record PassedChecks (hold : Bool) (space : ℕ) (ws has needs : List ℕ) : 
   pub passed : Passed hold space ws
   pub room : Roomy has needs
 
-pub accepted : (hold : Bool) (space : ℕ) (ws has needs : List ℕ) → checked hold space ws has needs ≡ Accept →
+pub accepted : (hold : Bool) (space : ℕ) (ws has needs : List ℕ) → checked hold space ws has needs ≡ Ok tt →
     PassedChecks hold space ws has needs
 unfolding checked
 accepted hold space ws has needs e =

@@ -1,11 +1,11 @@
 -- The first check that applies, over the checks of any part. Assumes nothing but what each law states.
-use Rattle.std.specs.Prelude.{ℕ, ◌≤◌, ◌≡◌, refl, Bool, true, false, List, [], ◌∷◌, ◌++◌}
+use Rattle.std.specs.Prelude.{ℕ, ◌≤◌, ◌≡◌, refl, Bool, true, false, List, [], ◌∷◌, ◌++◌, map}
 use Rattle.std.proofs.Common.{ap, arith, eqb-true, ltb-false}
 use Rattle.std.proofs.lemmas.Bool.{eqb-false, not-false}
 use Rattle.laws.specs.Number.{if}
 use Rattle.paper.specs.declared.Refusal.{Refusal}
-use Rattle.paper.specs.declared.Checked.{Checked}
-use Rattle.paper.specs.declared.Checked.TheVariants.{Accept, Refuse}
+use Rattle.paper.specs.Told.{Checked}
+use Rattle.std.specs.Prelude.{Ok, Err}
 use Rattle.paper.specs.Told.{first_short, Check, EMPTY, MANY, LENGTH, ROOM, Checks, in_order, first_given, unless, itself, given}
 
 -- ---- what is accepted, where to refuse is another thing than to accept
@@ -50,7 +50,7 @@ none_found plain other c e =
       room = eqb-true (first_short 1 c.has c.needs) 0 (not-false _ upper.1.0);
     }
 
-pub refused_other : (r : Refusal) → Refuse r ≡ Accept → ⊥
+pub refused_other : (r : Refusal) → ◌≡◌ {A = Checked} (Err r) (Ok tt) → ⊥
 refused_other r e = let z : ◌≡◌ {A = ℕ} 0 1 = cc in omega arith
 
 -- ---- the checks in turn, as code finds them
@@ -63,6 +63,13 @@ lengths_found word = given (LENGTH itself word ∷ [])
 abbrev pub room_found : List ℕ → List ℕ → Checked
 room_found has needs = given (ROOM itself (first_short 1 has needs) ∷ [])
 
+-- what entries some strips have, in their order, and what they need
+abbrev pub has_of : List (ℕ × ℕ) → List ℕ
+has_of = map (λ (s : ℕ × ℕ). s.0)
+
+abbrev pub needs_of : List (ℕ × ℕ) → List ℕ
+needs_of = map (λ (s : ℕ × ℕ). s.1)
+
 module _ {R A : Type 0} (plain : Refusal → R) (refuse : R → A) where
   abbrev pub unless_plain : Checked → A → A
   unless_plain = unless (λ r. refuse (plain r))
@@ -73,7 +80,7 @@ module _ {R A : Type 0} (plain : Refusal → R) (refuse : R → A) where
   then_others (c ∷ cs) ds accept = ap (if c.applies (refuse c.refusal)) (then_others cs ds accept)
 
   found : (b : Bool) (r : Refusal) (c : Checked) (later : A) →
-      unless_plain (if b (Refuse r) c) later ≡ if b (refuse (plain r)) (unless_plain c later)
+      unless_plain (if b (Err r) c) later ≡ if b (refuse (plain r)) (unless_plain c later)
   found true r c later = refl
   found false r c later = refl
 

@@ -1,70 +1,25 @@
 // The ranges of the numbers allowed, refusals 1 to 5 in their order, and the number and place that each refusal tells.
 #![tactic(auto)]
 
-ghost use Rattle.std.specs.Prelude.{◌≡◌, ◌≤◌, eqb, length};
+ghost use Rattle.std.specs.Prelude.{◌≡◌, ◌&&◌, ℕ, Bool, not, nat_lt, true};
+ghost use Rattle.std.specs.List.{fold, position};
 ghost use Rattle.paper.specs.Allowed.{length_holds, last_holds, limits_hold, page_limits_hold};
-ghost use Rattle.paper.specs.Told.{told_refusal, first_failing, first_short, checked};
-ghost use Rattle.refusals.specs.Checks.{words_found, lengths_found, room_found};
-ghost use Rattle.refusals.specs.Tells.{Tells};
+ghost use Rattle.paper.specs.Told.{first_failing, checked};
+ghost use Rattle.refusals.specs.Checks.{words_found, lengths_found, room_found, has_of, needs_of};
+ghost use Rattle.refusals.specs.Tells.{TellsOf};
 
-use paper::{Checked, Limits, PageLimits, Refusal};
+use paper::{Limits, PageLimits, Refusal};
 
 // W-205: "lastmin above lopt, or not 0 under edition 1, or an edition but 1 or 2, is LIMITS"
+#[tactic(auto, unfolding(paper::specs::Allowed::last_holds))]
 fn last_holds(l: Limits) -> bool
     ensures { result ≡ last_holds l }
 {
-    if l.lopt < l.lastmin {
-        return false;
-    }
-    if l.edition == 1 {
-        return l.lastmin == 0;
-    }
-    l.edition == 2
-}
-
-pub fn limits_hold(l: Limits) -> bool
-    ensures { result ≡ limits_hold l }
-{
-    if l.lmin < 1 {
-        return false;
-    }
-    if l.lopt < l.lmin {
-        return false;
-    }
-    if l.lmax < l.lopt {
-        return false;
-    }
-    if 4095 < l.lmax {
-        return false;
-    }
-    if l.lmax <= l.lmin {
-        return false;
-    }
-    if l.a < 1 {
-        return false;
-    }
-    if 15 < l.a {
-        return false;
-    }
-    if 255 < l.space {
-        return false;
-    }
-    last_holds(l)
-}
-
-pub fn page_limits_hold(l: PageLimits) -> bool
-    ensures { result ≡ page_limits_hold l }
-{
-    if l.lmax <= l.lmin {
-        return false;
-    }
-    if 65535 < l.lmax {
-        return false;
-    }
-    true
+    (l.lastmin <= l.lopt) & ((l.edition == 1) & (l.lastmin == 0) | (l.edition == 2))
 }
 
 // W-202: "a length not above the space is LENGTH". An index has space 0.
+#[tactic(auto, unfolding(paper::specs::Allowed::length_holds))]
 fn length_holds(space: u32, w: u32) -> bool
     ensures { result ≡ length_holds space w }
 {
@@ -73,122 +28,146 @@ fn length_holds(space: u32, w: u32) -> bool
 
 // Whether every length is allowed. No early exit and no branch, so that the compiler can take several words at a time.
 fn all_hold(space: u32, lengths: &[u32]) -> bool
-    ensures { result ≡ eqb (first_failing (length_holds space) 1 lengths.now) 0 }
+    ensures { result ≡ fold (λ hold w. hold && length_holds space w) true lengths.now }
 {
-    let mut hold = true;
-    let mut k = 0;
-    while k < lengths.len() {
-        hold = hold & length_holds(space, lengths[k]);
-        k += 1;
-    }
-    hold
+    lengths
+        .iter()
+        .fold(true, |hold, w| hold & length_holds(space, *w))
 }
 
-// The first word whose length is not allowed, counted from 1; 0 where there is none.
-fn first_bad(space: u32, lengths: &[u32]) -> usize
-    ensures { result ≡ first_failing (length_holds space) 1 lengths.now }
+// The place of the first word whose length is not allowed.
+fn first_bad(space: u32, lengths: &[u32]) -> Option<usize>
+    ensures { result ≡ position (λ w. not (length_holds space w)) lengths.now }
 {
-    let mut k = 0;
-    while k < lengths.len() {
-        if !length_holds(space, lengths[k]) {
-            return k + 1;
-        }
-        k += 1;
-    }
-    0
-}
-
-// The first strip that has fewer entries than it needs, counted from 1; 0 where there is none.
-fn first_short(has: &[usize], needs: &[usize]) -> usize
-    requires { length has.now ≤ length needs.now }
-    ensures { result ≡ first_short 1 has.now needs.now }
-{
-    let mut k = 0;
-    while k < has.len() {
-        if has[k] < needs[k] {
-            return k + 1;
-        }
-        k += 1;
-    }
-    0
+    lengths.iter().position(|w| !length_holds(space, *w))
 }
 
 // EMPTY and MANY.
-pub fn check_words(most: usize, n: usize) -> Checked
+pub fn check_words(most: usize, n: usize) -> Result<(), Refusal>
     ensures { result ≡ words_found most n }
 {
     if n == 0 {
-        return Checked::Refuse(Refusal::Empty);
+        return Err(Refusal::Empty);
     }
     if most < n {
-        return Checked::Refuse(Refusal::Many);
+        return Err(Refusal::Many);
     }
-    Checked::Accept
+    Ok(())
 }
 
-// LENGTH.
-pub fn check_lengths(space: u32, lengths: &[u32]) -> Checked
+// LENGTH, at the first word whose length is not allowed.
+pub fn check_lengths(space: u32, lengths: &[u32]) -> Result<(), Refusal>
     ensures { result ≡ lengths_found (first_failing (length_holds space) 1 lengths.now) }
 {
     if all_hold(space, lengths) {
-        return Checked::Accept;
+        return Ok(());
     }
-    Checked::Refuse(Refusal::Length(first_bad(space, lengths)))
+    match first_bad(space, lengths) {
+        Some(k) => Err(Refusal::Length(k + 1)),
+        None => Ok(()),
+    }
 }
 
-// ROOM.
-pub fn check_room(has: &[usize], needs: &[usize]) -> Checked
-    requires { length has.now ≤ length needs.now }
-    ensures { result ≡ room_found has.now needs.now }
+// The place of the first strip that has fewer entries than it needs: each has and needs so many.
+fn first_short(rooms: &[(usize, usize)]) -> Option<usize>
+    ensures { result ≡ position (λ (s : ℕ × ℕ). nat_lt s.0 s.1) rooms.now }
 {
-    let strip = first_short(has, needs);
-    if strip == 0 {
-        return Checked::Accept;
-    }
-    Checked::Refuse(Refusal::Room(strip))
+    rooms.iter().position(|s| s.0 < s.1)
 }
 
-// The first of refusals 1 to 5 that applies; `hold` says whether the limits do, whose space every length is to exceed.
-pub fn check(hold: bool, space: u32, lengths: &[u32], has: &[usize], needs: &[usize]) -> Checked
-    requires { length has.now ≤ length needs.now }
-    ensures { result ≡ checked hold space lengths.now has.now needs.now }
+// ROOM, at the first strip that has fewer entries than it needs.
+pub fn check_room(rooms: &[(usize, usize)]) -> Result<(), Refusal>
+    ensures { result ≡ room_found (has_of rooms.now) (needs_of rooms.now) }
 {
-    let words = check_words(4096, lengths.len());
-    if let Checked::Refuse(r) = words {
-        return Checked::Refuse(r);
+    match first_short(rooms) {
+        Some(k) => Err(Refusal::Room(k + 1)),
+        None => Ok(()),
     }
-    if !hold {
-        return Checked::Refuse(Refusal::Limits);
+}
+
+// What refusals 1 to 5 read of a kind of limits.
+pub trait Allowed: Copy {
+    ghost holds: { Self → Bool };
+
+    ghost space_of: { Self → ℕ };
+
+    fn hold(self) -> bool
+        ensures { result ≡ holds self };
+
+    // What every length is to exceed.
+    fn space(self) -> u32
+        ensures { result ≡ space_of self };
+}
+
+impl Allowed for Limits {
+    ghost holds = { limits_hold };
+
+    ghost space_of = { λ l. l.space };
+
+    fn hold(self) -> bool {
+        (1 <= self.lmin)
+            & (self.lmin <= self.lopt)
+            & (self.lopt <= self.lmax)
+            & (self.lmax <= 4095)
+            & (self.lmin < self.lmax)
+            & (1 <= self.a)
+            & (self.a <= 15)
+            & (self.space <= 255)
+            & last_holds(self)
     }
-    let found = check_lengths(space, lengths);
-    if let Checked::Refuse(r) = found {
-        return Checked::Refuse(r);
+
+    fn space(self) -> u32 {
+        self.space
     }
-    check_room(has, needs)
+}
+
+impl Allowed for PageLimits {
+    ghost holds = { page_limits_hold };
+
+    ghost space_of = { λ l. 0 };
+
+    #[tactic(auto, unfolding(paper::specs::Allowed::page_limits_hold))]
+    fn hold(self) -> bool {
+        (self.lmin < self.lmax) & (self.lmax <= 65535)
+    }
+
+    fn space(self) -> u32 {
+        0
+    }
+}
+
+// The first of refusals 1 to 5 that applies.
+pub fn check<L: Allowed>(l: L, lengths: &[u32], rooms: &[(usize, usize)]) -> Result<(), Refusal>
+    ensures { result ≡ checked (L.holds l) (L.space_of l) lengths.now (has_of rooms.now) (needs_of rooms.now) }
+{
+    check_words(4096, lengths.len())?;
+    if !l.hold() {
+        return Err(Refusal::Limits);
+    }
+    check_lengths(l.space(), lengths)?;
+    check_room(rooms)
 }
 
 // 01's number and place.
-#[derive(Clone, Copy)]
+#[derive(Clone, Copy, Debug, PartialEq, Eq)]
 pub struct Reason {
     pub number: u32,
     pub place: usize,
 }
 
-fn told(number: u32, place: usize) -> Reason
-    ensures { Tells number place result }
-{
-    Reason { number, place }
-}
+impl From<Refusal> for Reason {
+    ghost from_gives = { TellsOf };
 
-pub fn told_refusal(r: Refusal) -> Reason
-    ensures { Tells (told_refusal r).number (told_refusal r).place result }
-{
-    match r {
-        Refusal::Empty => told(1, 0),
-        Refusal::Many => told(2, 0),
-        Refusal::Limits => told(3, 0),
-        Refusal::Length(word) => told(4, word),
-        Refusal::Room(strip) => told(5, strip),
-        Refusal::Job(offset) => told(7, offset),
+    #[tactic(auto, unfolding(paper::specs::Told::told_refusal))]
+    fn from(r: Refusal) -> Reason {
+        let (number, place) = match r {
+            Refusal::Empty => (1, 0),
+            Refusal::Many => (2, 0),
+            Refusal::Limits => (3, 0),
+            Refusal::Length(word) => (4, word),
+            Refusal::Room(strip) => (5, strip),
+            Refusal::Job(offset) => (7, offset),
+        };
+        Reason { number, place }
     }
 }

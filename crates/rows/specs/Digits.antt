@@ -1,6 +1,8 @@
 -- Decimal digits: one turn, and how many there are. Assumes nothing.
 use Rattle.std.specs.Prelude.{ℕ, zero, suc, ◌+◌, ◌/◌, ◌%◌, ◌^◌, ◌≤◌, ◌<◌, ◌≡◌, List, [], ◌∷◌, ◌++◌, ltb, length}
 use Rattle.std.proofs.Common.{ap, sym, ◌∙◌, ⊎_elim, arith, pow-suc, add-one, lt-ltb, le-ltb, length-append}
+use Rattle.std.specs.Fmt.{decimal}
+use Rattle.std.proofs.lemmas.Fmt.{decimal_by_steps}
 use Rattle.laws.specs.Number.{split, when_true, when_false}
 use Rattle.rows.specs.Rows.{digit, digits_in, digits}
 
@@ -33,6 +35,11 @@ unfolding digits
 digits_more x h =
     rw (add-one x)
     (in_more x x h ∙ ap (λ (l : List ℕ). l ++ (digit (x % 10) ∷ [])) (enough x (x / 10 + 1) (x / 10) (omega arith) (omega arith)))
+
+-- ---- they are those that std prints of a number
+pub digits_decimal : (x : ℕ) → x < 2 ^ 64 → digits x ≡ decimal x
+digits_decimal =
+    decimal_by_steps (λ n ds. digits n ≡ ds) digits_one (λ n ds h e. digits_more n h ∙ ap (λ (l : List ℕ). l ++ (digit (n % 10) ∷ [])) e)
 
 -- ---- a number below 10^k has at most k digits
 pub digits_width : (k x : ℕ) → x < 10 ^ k → 1 ≤ k → length (digits x) ≤ k

@@ -3,3 +3,4 @@ pub mod Rows
 pub mod Digits
 pub mod Puts
 pub mod Size
+pub mod Writes

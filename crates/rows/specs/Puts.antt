@@ -1,7 +1,8 @@
 -- Bytes that are put into a lent buffer, from a place on. Past the buffer's end nothing is written: on an empty one a listing is
 -- only counted. Assumes nothing.
 use Rattle.std.specs.Prelude.{ℕ, suc, ◌+◌, ◌^◌, ◌≤◌, ◌<◌, ◌≡◌, refl, List, [], ◌∷◌, ◌++◌, length, get_or, drop}
-use Rattle.std.proofs.Common.{ap, sym, ◌∙◌, append_assoc, zero-add, add-one, arith, length-append, drop_of_length-le, drop-cons}
+use Rattle.std.proofs.Common.{ap, sym, ◌∙◌, append_assoc, zero-add, arith, length-append, drop_of_length-le}
+use Rattle.std.proofs.lemmas.List.{drop_more, nil_from_length}
 use Rattle.std.proofs.lemmas.List.Edits.{sets, sets-eq}
 use Rattle.std.proofs.Math.Seq.{length-sets}
 use Rattle.laws.specs.Strip.{over}
@@ -58,7 +59,7 @@ module _ {f : List ℕ → List ℕ} {xs : List ℕ} {k at : ℕ} {s : List ℕ}
   module _ (more : k < length xs) where
     next_is : (piece : List ℕ) → f (get_or xs k 0 ∷ drop (k + 1) xs) ≡ piece ++ f (drop (k + 1) xs) →
         f (drop k xs) ≡ piece ++ f (drop (k + 1) xs)
-    next_is piece one = ap f (drop-cons xs k 0 more ∙ ap (λ (m : ℕ). get_or xs k 0 ∷ drop m xs) (sym (add-one k))) ∙ one
+    next_is piece one = ap f (drop_more xs k 0 more) ∙ one
 
     pub along_fits : {piece : List ℕ} → f (get_or xs k 0 ∷ drop (k + 1) xs) ≡ piece ++ f (drop (k + 1) xs) →
         Fits at (f xs ∷ []) → Fits next (piece ∷ [])
@@ -92,8 +93,4 @@ puts_over {xs = xs} {s = s} p room = p.written ∙ sets-eq xs s 0 (omega arith) 
 
 -- an empty buffer stays empty
 pub puts_counted : {xs t : List ℕ} {next : ℕ} → Puts xs 0 [] next t → t ≡ []
-puts_counted {xs = xs} p = p.written ∙ nothing (sets [] 0 xs) (length-sets [] 0 xs)
-  where
-    nothing : (l : List ℕ) → length l ≡ 0 → l ≡ []
-    nothing [] e = refl
-    nothing (x ∷ l) e = absurd (omega arith)
+puts_counted {xs = xs} p = p.written ∙ nil_from_length (sets [] 0 xs) (length-sets [] 0 xs)

@@ -1,7 +1,7 @@
 -- The index's promise shuts out 01's five idle programs. Assumes nothing.
 use Rattle.std.specs.Prelude.{ℕ, ◌≡◌, refl, List, [], ◌∷◌, get_or, replicate}
 use Rattle.std.proofs.Common.{ap, arith}
-use Rattle.paper.specs.declared.Answer.TheVariants.{Set}
+use Rattle.paper.specs.Told.{set_answer}
 use Rattle.paper.specs.Allowed.{page_limits_of}
 use Rattle.paper.specs.Strips.{IndexStrips, index_strips, IndexOutcome, index_outcome}
 use Rattle.paper.specs.Computes.{index_computes}
@@ -20,7 +20,7 @@ G3 = index_outcome (page_limits_of 0 7) (8 ∷ []) entry
 
 abbrev computed_G1 : IndexOutcome
 computed_G1 = record {
-  answer = Set 2 1 3;
+  answer = set_answer 2 1 3;
   strips = index_strips
       (0 ∷ 3 ∷ 7 ∷ 9 ∷ 14 ∷ []) (2 ∷ 5 ∷ 4 ∷ 2 ∷ 18446744073709551615 ∷ 0 ∷ []) (3 ∷ 3 ∷ 5 ∷ 5 ∷ 0 ∷ 0 ∷ []) (0 ∷ 0 ∷ 0 ∷ 0 ∷ 3 ∷ 0 ∷ [])
       (0 ∷ 2 ∷ 3 ∷ 5 ∷ 5 ∷ 0 ∷ []) (39 ∷ 37 ∷ 30 ∷ 7 ∷ 7 ∷ 7 ∷ 7 ∷ 7 ∷ []) (3 ∷ 7 ∷ 7 ∷ 7 ∷ []);

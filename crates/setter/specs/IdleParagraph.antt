@@ -1,7 +1,7 @@
 -- The paragraph's promise shuts out 01's five idle programs. Assumes nothing.
 use Rattle.std.specs.Prelude.{ℕ, ◌≡◌, refl, List, [], ◌∷◌, get_or, replicate}
 use Rattle.std.proofs.Common.{ap, arith}
-use Rattle.paper.specs.declared.Answer.TheVariants.{Set}
+use Rattle.paper.specs.Told.{set_answer}
 use Rattle.paper.specs.Allowed.{limits_of}
 use Rattle.paper.specs.Strips.{ParagraphStrips, paragraph_strips, ParagraphOutcome, paragraph_outcome}
 use Rattle.paper.specs.Computes.{paragraph_computes}
@@ -20,7 +20,7 @@ P2 = paragraph_outcome (limits_of 6 8 10 1) (4 ∷ 4 ∷ 3 ∷ 5 ∷ 2 ∷ []) e
 
 abbrev computed_P1 : ParagraphOutcome
 computed_P1 = record {
-  answer = Set 13 3 7;
+  answer = set_answer 13 3 7;
   strips = paragraph_strips
       (0 ∷ 3 ∷ 5 ∷ 7 ∷ 12 ∷ 7 ∷ []) (13 ∷ 4 ∷ 16 ∷ 0 ∷ 0 ∷ 7 ∷ []) (2 ∷ 4 ∷ 4 ∷ 5 ∷ 0 ∷ 7 ∷ []) (0 ∷ 0 ∷ 0 ∷ 0 ∷ 7 ∷ [])
       (41 ∷ 43 ∷ 33 ∷ 25 ∷ 35 ∷ 28 ∷ 17 ∷ 7 ∷ 7 ∷ 7 ∷ []) (1 ∷ 2 ∷ 4 ∷ 7 ∷ 7 ∷ []);

@@ -2,9 +2,8 @@
 -- satisfy a promise agree. Assumes nothing.
 use Rattle.std.specs.Prelude.{◌≡◌}
 use Rattle.laws.specs.Outcome.{Promise, agree, Answers, answers_single}
-use Rattle.paper.specs.declared.Answer.{Answer}
-use Rattle.paper.specs.declared.Penalty.{Penalty}
-use Rattle.paper.specs.Told.{told, told_penalty}
+use Rattle.paper.specs.Told.{Answer}
+use Rattle.paper.specs.Told.{Alone, told, told_penalty}
 use Rattle.paper.specs.Strips.{ParagraphStrips, ParagraphOutcome, IndexStrips, IndexOutcome}
 
 -- The paragraph's outcome is `paragraph_outcome` of the limits, the lengths and the strips at entry.
@@ -23,8 +22,8 @@ pub index_agree : {o : IndexOutcome} {a b : Answer} {s t : IndexStrips} → Inde
 index_agree = agree answers_single
 
 -- The penalty's answer is `penalty_alone` of the limits and the length.
-abbrev pub PenaltyPromise : Penalty → Penalty → Type 0
+abbrev pub PenaltyPromise : Alone → Alone → Type 0
 PenaltyPromise = Answers told_penalty
 
-pub penalty_agree : {o a b : Penalty} → PenaltyPromise o a → PenaltyPromise o b → a ≡ b
+pub penalty_agree : {o a b : Alone} → PenaltyPromise o a → PenaltyPromise o b → a ≡ b
 penalty_agree = answers_single _ _ _

@@ -3,8 +3,8 @@ ghost use Rattle.paper.specs.Strips.{index_strips, index_outcome};
 ghost use Rattle.setter.specs.Promise.{IndexPromise};
 
 use pages::page;
-use paper::{Answer, Checked, PageLimits};
-use refusals::{check, page_limits_hold};
+use paper::{PageLimits, Set, Unset};
+use refusals::check;
 
 // Pages a list at least key total, or says why not. Strips in 01's order; a larger strip is accepted.
 pub fn set_index(
@@ -17,7 +17,7 @@ pub fn set_index(
     right: &mut [u32],
     moves: &mut [u32],
     boundaries: &mut [u32],
-) -> Answer
+) -> Result<Set, Unset>
     ensures { IndexPromise
         (index_outcome l lengths.now (index_strips sums.old best.old next.old
         left.old right.old moves.old boundaries.old))
@@ -25,19 +25,16 @@ pub fn set_index(
         left.new right.new moves.new boundaries.new) }
 {
     let n = lengths.len();
-    let has = [
-        sums.len(),
-        best.len(),
-        next.len(),
-        left.len(),
-        right.len(),
-        moves.len(),
-        boundaries.len(),
+    // what each strip has and needs
+    let rooms = [
+        (sums.len(), n + 1),
+        (best.len(), n + 2),
+        (next.len(), n + 2),
+        (left.len(), n + 2),
+        (right.len(), n + 2),
+        (moves.len(), 2 * n),
+        (boundaries.len(), n),
     ];
-    let needs = [n + 1, n + 2, n + 2, n + 2, n + 2, 2 * n, n];
-    let checked = check(page_limits_hold(l), 0, lengths, &has, &needs);
-    if let Checked::Refuse(r) = checked {
-        return Answer::Refused(r);
-    }
+    check(l, lengths, &rooms)?;
     page(l, lengths, sums, best, next, left, right, moves, boundaries)
 }

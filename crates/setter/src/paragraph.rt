@@ -5,8 +5,8 @@ ghost use Rattle.setter.specs.Promise.{ParagraphPromise, PenaltyPromise};
 
 use breaks::set;
 use lines::penalty;
-use paper::{Answer, Checked, Limits, Penalty, Refusal};
-use refusals::{check, limits_hold};
+use paper::{Limits, Refusal, Set, Unset};
+use refusals::{Allowed, check};
 
 // Sets a paragraph at least penalty, or says why not. Strips in 01's order; a larger strip is accepted.
 pub fn set_paragraph(
@@ -18,7 +18,7 @@ pub fn set_paragraph(
     queue: &mut [u32],
     moves: &mut [u32],
     breaks: &mut [u32],
-) -> Answer
+) -> Result<Set, Unset>
     ensures { ParagraphPromise
         (paragraph_outcome l lengths.now (paragraph_strips sums.old best.old next.old
         queue.old moves.old breaks.old))
@@ -26,19 +26,16 @@ pub fn set_paragraph(
         queue.new moves.new breaks.new) }
 {
     let n = lengths.len();
-    let has = [
-        sums.len(),
-        best.len(),
-        next.len(),
-        queue.len(),
-        moves.len(),
-        breaks.len(),
+    // what each strip has and needs
+    let rooms = [
+        (sums.len(), n + 1),
+        (best.len(), n + 1),
+        (next.len(), n + 1),
+        (queue.len(), n),
+        (moves.len(), 2 * n),
+        (breaks.len(), n),
     ];
-    let needs = [n + 1, n + 1, n + 1, n, 2 * n, n];
-    let checked = check(limits_hold(l), l.space, lengths, &has, &needs);
-    if let Checked::Refuse(r) = checked {
-        return Answer::Refused(r);
-    }
+    check(l, lengths, &rooms)?;
     set(l, lengths, sums, best, next, queue, moves, breaks)
 }
 
@@ -46,17 +43,17 @@ pub fn set_paragraph(
 const MOST_ALONE: u32 = 16773120;
 
 // The penalty of a line of one length, asked for alone: outside the measure there is none (W-204). The space is off that length already.
-pub fn penalty_alone(l: Limits, length: u32) -> Penalty
+pub fn penalty_alone(l: Limits, length: u32) -> Result<Option<u64>, Refusal>
     ensures { PenaltyPromise (penalty_alone l length) result }
 {
-    if !limits_hold(l) {
-        return Penalty::Refused(Refusal::Limits);
+    if !l.hold() {
+        return Err(Refusal::Limits);
     }
     if MOST_ALONE < length {
-        return Penalty::Refused(Refusal::Length(0));
+        return Err(Refusal::Length(0));
     }
     if length < l.lmin || l.lmax < length {
-        return Penalty::Outside;
+        return Ok(None);
     }
-    Penalty::Of(penalty(l, length))
+    Ok(Some(penalty(l, length)))
 }

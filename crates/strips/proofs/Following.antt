@@ -1,10 +1,8 @@
 -- One turn of the loop that follows the nexts. Assumes nothing.
-use Prim.Native.Nat.{ℕ, ◌+◌, ◌≤◌, ◌<◌}
-use mathlib.Core.Path.{◌≡◌, refl, ap, sym, ◌∙◌}
-use mathlib.Core.List.{List, [], ◌∷◌, ◌++◌, append_assoc}
-use native.Mathlib.Omega.{arith}
-use lib.ListN.{length, set, length-append, length-set}
-use Rattle.laws.specs.Strip.{over, over_nil, over_set, append_nil}
+use Rattle.std.proofs.Common.{◌≡◌, refl, ap, sym, ◌∙◌}
+use Rattle.std.proofs.Common.{ℕ, ◌+◌, ◌≤◌, ◌<◌, List, [], ◌∷◌, ◌++◌, append_assoc, length, length-append, set, arith}
+use Rattle.laws.specs.Strip.{over, over_nil, over_set}
+use Rattle.std.proofs.lemmas.List.{append-nil}
 use Rattle.strips.specs.Asks.{FollowAsk, Followed}
 use Rattle.strips.specs.Chain.{next_in, chain, LeadsOn, leads_rises, leads_on, chain_more, chain_past}
 
@@ -16,40 +14,30 @@ pub record Following (N : List ℕ) (o n first : ℕ) (s₀ s : List ℕ) (at fo
   pub so_far : chain N o n first ≡ done ++ chain N o n at
   pub leads : LeadsOn N o n at
   pub rose : first + found ≤ at
-  pub len : length s ≡ length s₀
 
 module _ {N : List ℕ} {o n first : ℕ} {s₀ : List ℕ} where
   pub following_first : FollowAsk N o n first s₀ → Following N o n first s₀ s₀ first 0
-  following_first a = record {
-    done = [];
-    is = sym (over_nil s₀);
-    count = refl;
-    so_far = refl;
-    leads = a.leads;
-    rose = omega arith;
-    len = refl;
-  }
+  following_first a = record { done = []; is = sym (over_nil s₀); count = refl; so_far = refl; leads = a.leads; rose = omega arith }
 
   module _ {s : List ℕ} {at found : ℕ} (f : Following N o n first s₀ s at found) where
-    pub following_room : FollowAsk N o n first s₀ → at ≤ n → found < length s
-    following_room a h = omega (arith, a.room, f.rose, f.len)
-
-    pub following_more : FollowAsk N o n first s₀ → at ≤ n → Following N o n first s₀ (set s found at) (next_in N o at) (found + 1)
-    following_more a h = record {
+    pub following_more : found < length s₀ → at ≤ n → Following N o n first s₀ (set s found at) (next_in N o at) (found + 1)
+    following_more room h = record {
       done = f.done ++ (at ∷ []);
-      is = ap (λ (l : List ℕ). set l found at) f.is
-          ∙ over_set f.done s₀ at found f.count (omega (arith, following_room a h, f.count, f.len));
+      is = ap (λ (l : List ℕ). set l found at) f.is ∙ over_set f.done s₀ at found f.count (omega (arith, f.count));
       count = simp length-append (omega (arith, f.count));
       so_far = f.so_far
           ∙ ap (λ (l : List ℕ). f.done ++ l) (chain_more N o n at f.leads h)
           ∙ sym (append_assoc f.done (at ∷ []) (chain N o n (next_in N o at)));
       leads = leads_on N o n at f.leads h;
       rose = omega (arith, f.rose, leads_rises N o n at f.leads h);
-      len = length-set s found at ∙ f.len;
     }
 
     pub following_done : n < at → Followed (chain N o n first) s₀ s found
     following_done h =
         let past = ap (λ (l : List ℕ). f.done ++ l) (chain_past N o n at h) in
-        let e : chain N o n first ≡ f.done = f.so_far ∙ past ∙ append_nil f.done in
+        let e : chain N o n first ≡ f.done = f.so_far ∙ past ∙ append-nil f.done in
         record { is = f.is ∙ ap (λ (l : List ℕ). over l s₀) (sym e); counted = f.count ∙ ap length (sym e) }
+
+    -- where the strip is full no start is left
+    pub following_full : FollowAsk N o n first s₀ → found ≡ length s₀ → Followed (chain N o n first) s₀ s found
+    following_full a full = following_done (omega (arith, a.room, f.rose))

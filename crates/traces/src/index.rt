@@ -6,14 +6,10 @@ use capi::hathurmo_set_index;
 use paper::PageLimits;
 
 // Sets an index of up to 12 items in strips whose entries are all 7, and prints of each 2 entries more than 01 asks for.
-pub fn trace(l: PageLimits, lengths: &[u32])
+pub fn trace(rt: &impl Print, l: PageLimits, lengths: &[u32])
     requires { length lengths.now ≤ 12 }
 {
     let n = lengths.len();
-    let words = n + 2;
-    let starts = n + 3;
-    let ends = n + 4;
-    let twice = 2 * n + 2;
     let mut sums = [7u32; 15];
     let mut best = [7u64; 16];
     let mut next = [7u32; 16];
@@ -32,12 +28,12 @@ pub fn trace(l: PageLimits, lengths: &[u32])
         &mut moves,
         &mut boundaries,
     );
-    print::strip(b"sums:", &sums, starts);
-    print::best(&best, ends);
-    print::strip(b"next:", &next, ends);
-    print::strip(b"left:", &left, ends);
-    print::strip(b"right:", &right, ends);
-    print::strip(b"moves:", &moves, twice);
-    print::strip(b"boundaries:", &boundaries, words);
-    print::told(told);
+    print::strip(rt, "sums", &sums[..n + 3]);
+    print::strip(rt, "best", &best[..n + 4]);
+    print::strip(rt, "next", &next[..n + 4]);
+    print::strip(rt, "left", &left[..n + 4]);
+    print::strip(rt, "right", &right[..n + 4]);
+    print::strip(rt, "moves", &moves[..2 * n + 2]);
+    print::strip(rt, "boundaries", &boundaries[..n + 2]);
+    print::told(rt, told);
 }

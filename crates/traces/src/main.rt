@@ -8,62 +8,50 @@ mod print;
 
 ghost use Rattle.std.specs.Prelude.{◌≤◌, length};
 
-use job::{Asked, Job};
+use job::Asked;
 use paper::Limits;
-use records::{record_at, short};
-
-// The limits of a job under an edition.
-fn under(l: Limits, edition: u32, lastmin: u32) -> Limits {
-    Limits {
-        lmin: l.lmin,
-        lopt: l.lopt,
-        lmax: l.lmax,
-        a: l.a,
-        space: l.space,
-        edition,
-        lastmin,
-    }
-}
+use printer::read_front;
+use records::{Records, split_short};
 
 // Prints the strips of what a job asks for, and of a paragraph the penalties.
-fn trace_asked(asked: Asked, edition: u32, lastmin: u32, lengths: &[u32])
+fn trace_asked(rt: &impl Print, asked: Asked, edition: u16, lastmin: u16, lengths: &[u32])
     requires { length lengths.now ≤ 12 }
 {
     match asked {
         Asked::Paragraph(l) => {
-            let limits = under(l, edition, lastmin);
-            paragraph::trace(limits, lengths);
-            paragraph::penalties(limits, lengths);
+            let limits = Limits {
+                edition: u32::from(edition),
+                lastmin: u32::from(lastmin),
+                ..l
+            };
+            paragraph::trace(rt, limits, lengths);
+            paragraph::penalties(rt, limits, lengths);
         }
-        Asked::Index(l) => index::trace(l, lengths),
+        Asked::Index(l) => index::trace(rt, l, lengths),
     }
 }
 
 // Prints the strips of one record whose job has up to 12 lengths. A job that is refused prints nothing.
-fn trace(record: &[u8]) {
-    if record.len() < 4 {
-        return;
-    }
-    let mut lengths = [0u32; 12];
-    let Job::Read(limits, n) = job::read(&record[4..], &mut lengths) else {
+fn trace(rt: &impl Print, record: &[u8]) {
+    let Some((edition, rest)) = split_short(record) else {
         return;
     };
-    if 12 < n {
+    let Some((lastmin, job)) = split_short(rest) else {
         return;
+    };
+    let mut lengths = [0u32; 12];
+    let Ok(given) = job::read(job, &mut lengths) else {
+        return;
+    };
+    if let Some(lengths) = lengths.get(..given.n) {
+        trace_asked(rt, given.limits.asked, edition, lastmin, lengths);
     }
-    let asked = limits.asked;
-    trace_asked(asked, short(record, 0), short(record, 2), &lengths[..n]);
 }
 
-fn main() {
-    let mut buffer = io::large_buffer();
-    let n = io::read_full(0, &mut buffer);
-    let file = &buffer[..n];
-    let mut at = 0;
-    while at + 2 <= file.len() {
-        let r = record_at(file, at);
-        let from = r.from;
-        at = r.end;
-        trace(&file[from..at]);
+fn main(rt: HostRuntime) {
+    let mut buffer = [0u8; 65536];
+    let file = read_front(&mut rt.reader(), &mut buffer);
+    for record in Records(file) {
+        trace(&rt, record);
     }
 }

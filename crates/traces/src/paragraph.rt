@@ -6,22 +6,17 @@ use capi::{hathurmo_penalty, hathurmo_set_paragraph};
 use paper::Limits;
 
 // Prints what is told of the penalty of a line of each length, asked for alone.
-pub fn penalties(l: Limits, lengths: &[u32]) {
-    let mut k = 0;
-    while k < lengths.len() {
-        print::told(hathurmo_penalty(l, lengths[k]));
-        k += 1;
+pub fn penalties(rt: &impl Print, l: Limits, lengths: &[u32]) {
+    for length in lengths {
+        print::told(rt, hathurmo_penalty(l, *length));
     }
 }
 
 // Sets a paragraph of up to 12 words in strips whose entries are all 7, and prints of each 2 entries more than 01 asks for.
-pub fn trace(l: Limits, lengths: &[u32])
+pub fn trace(rt: &impl Print, l: Limits, lengths: &[u32])
     requires { length lengths.now ≤ 12 }
 {
     let n = lengths.len();
-    let words = n + 2;
-    let starts = n + 3;
-    let twice = 2 * n + 2;
     let mut sums = [7u32; 15];
     let mut best = [7u64; 15];
     let mut next = [7u32; 15];
@@ -38,11 +33,11 @@ pub fn trace(l: Limits, lengths: &[u32])
         &mut moves,
         &mut breaks,
     );
-    print::strip(b"sums:", &sums, starts);
-    print::best(&best, starts);
-    print::strip(b"next:", &next, starts);
-    print::strip(b"queue:", &queue, words);
-    print::strip(b"moves:", &moves, twice);
-    print::strip(b"breaks:", &breaks, words);
-    print::told(told);
+    print::strip(rt, "sums", &sums[..n + 3]);
+    print::strip(rt, "best", &best[..n + 3]);
+    print::strip(rt, "next", &next[..n + 3]);
+    print::strip(rt, "queue", &queue[..n + 2]);
+    print::strip(rt, "moves", &moves[..2 * n + 2]);
+    print::strip(rt, "breaks", &breaks[..n + 2]);
+    print::told(rt, told);
 }

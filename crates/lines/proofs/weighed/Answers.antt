@@ -16,4 +16,4 @@ pub overflow_mul-l : goal.overflow_mul-l
 overflow_mul-l c = rw (cast_is (squaring c.requires)) (omega (arith, weighed_fits c.requires))
 
 pub returns : goal.returns
-returns c = rw (c.long.ensures, cast_is (squaring c.requires)) (refl, weighed_fits c.requires)
+returns c = rw (c.from.ensures, cast_is (squaring c.requires)) (refl, weighed_fits c.requires)

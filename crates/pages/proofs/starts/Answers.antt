@@ -1,31 +1,38 @@
-use Rattle.std.proofs.Common.{arith}
-use Rattle.pages.proofs.Paging.{paging_first, paging_length, paging_began, paging_ask, paging_fits, paging_next, paging_done}
+use Rattle.std.proofs.Common.{◌-◌, arith}
+use Rattle.pages.proofs.Paging.{paging_ask, paging_began, paging_length, paging_fits, paging_next}
+use Rattle.pages.proofs.PagingEnds.{paging_first, paging_done}
 use Rattle.pages.proofs.starts.Goals as goal
 
 pub loop-i-init : goal.loop-i-init
-loop-i-init c = paging_first c.requires c.clear.ensures c.clear-2.ensures
+loop-i-init c = paging_first c.requires (c.fill.ensures.after (λ y e. e)) (c.fill-2.ensures.after (λ y e. e))
 
-pub offset_bounds-moves-count : goal.offset_bounds-moves-count
-offset_bounds-moves-count c =
-    omega (arith, paging_began c.loop-i.invariant c.loop-i-test.true, paging_length c.loop-i.invariant, c.well_formed)
+pub offset_bounds-moves-taken : goal.offset_bounds-moves-taken
+offset_bounds-moves-taken c = omega (arith, paging_began c.loop-i.invariant, paging_length c.loop-i.invariant, c.well_formed)
 
-pub slice_bounds-at_start-count : goal.slice_bounds-at_start-count
-slice_bounds-at_start-count c = paging_began c.loop-i.invariant c.loop-i-test.true
+pub slice_bounds-apply-count : goal.slice_bounds-apply-count
+slice_bounds-apply-count c = paging_began c.loop-i.invariant
 
-pub slice_bounds-at_start-start : goal.slice_bounds-at_start-start
-slice_bounds-at_start-start c = paging_began c.loop-i.invariant c.loop-i-test.true
+pub slice_bounds-apply-start : goal.slice_bounds-apply-start
+slice_bounds-apply-start c = paging_began c.loop-i.invariant
 
-pub at_start-came-requires : goal.at_start-came-requires
-at_start-came-requires c = paging_ask c.loop-i.invariant c.loop-i-test.true
+pub apply-came-requires : goal.apply-came-requires
+apply-came-requires c =
+    let s = c.new-start.ensures in
+    let g = rw (← s.same_limits, ← s.same_sums) at c.loop-i.invariant in
+    paging_ask c.new-start.result g (omega (arith, s.same_start))
 
-pub overflow_add-count : goal.overflow_add-count
-overflow_add-count c = omega (arith, paging_fits c.loop-i.invariant c.loop-i-test.true c.at_start-came.ensures, c.well_formed)
+pub overflow_add-taken : goal.overflow_add-taken
+overflow_add-taken c =
+    let s = c.new-start.ensures in
+    let g = rw (← s.same_limits, ← s.same_sums) at c.loop-i.invariant in
+    omega (arith, paging_fits c.new-start.result g (omega (arith, s.same_start)) c.apply-came.ensures, c.well_formed)
 
 pub loop-i-preserved : goal.loop-i-preserved
-loop-i-preserved c = paging_next c.loop-i.invariant c.loop-i-test.true c.at_start-came.ensures
-
-pub shape_of-moves : goal.shape_of-moves
-shape_of-moves c = search paging_length
+loop-i-preserved c =
+    let s = c.new-start.ensures in
+    let g = rw (← s.same_limits, ← s.same_sums) at c.loop-i.invariant in
+    rw (s.same_limits, s.same_sums, s.same_start) at
+    (paging_next c.new-start.result g (omega (arith, s.same_start)) c.apply-came.ensures)
 
 pub returns : goal.returns
-returns c = search paging_done
+returns c = paging_done c.loop-i.invariant c.loop-i-test.false

@@ -1,5 +1,9 @@
+use Rattle.std.proofs.Common.{◌∙◌}
 use Rattle.rows.specs.Puts.{puts_then}
 use Rattle.listing.proofs.heading.heading.Goals as goal
 
 pub returns : goal.returns
-returns c = puts_then c.named-next.ensures (puts_then c.named-after.ensures c.named.ensures)
+returns c = (
+  c.named-3.ensures.0 ∙ c.named-2.ensures.0 ∙ c.named.ensures.0,
+  puts_then c.named.ensures.1 (puts_then c.named-2.ensures.1 c.named-3.ensures.1),
+)

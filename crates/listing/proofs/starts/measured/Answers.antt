@@ -7,11 +7,11 @@ pub line_length-x-requires : goal.line_length-x-requires
 line_length-x-requires c = line_span c.requires
 
 pub returns-then-x-l : goal.returns-then-x-l
-returns-then-x-l c = free_is c.requires c.line_length-x.ensures c.long.ensures c.if-j-lengths.true c.if-x-l.true-raw
+returns-then-x-l c = free_is c.requires c.line_length-x.ensures c.from.ensures c.if-j-lengths.true c.if-x-l.true-raw
 
 pub penalty-requires : goal.penalty-requires
 penalty-requires c =
-    paid_inside c.requires c.line_length-x.ensures c.long-2.ensures
+    paid_inside c.requires c.line_length-x.ensures c.from-2.ensures
     (elim c.else-j-lengths.branch [
       | else-j-lengths-via-then-j-lengths+else-x-l w ↦ inl w.if-x-l.false-raw
       | else-j-lengths-via-else-j-lengths w ↦ inr w.if-j-lengths.false
@@ -19,7 +19,7 @@ penalty-requires c =
 
 pub returns : goal.returns
 returns c =
-    paid_is c.requires c.line_length-x.ensures c.long-2.ensures
+    paid_is c.requires c.line_length-x.ensures c.from-2.ensures
     (elim c.else-j-lengths.branch [
       | else-j-lengths-via-then-j-lengths+else-x-l w ↦ inl w.if-x-l.false-raw
       | else-j-lengths-via-else-j-lengths w ↦ inr w.if-j-lengths.false
