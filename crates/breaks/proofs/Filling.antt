@@ -28,14 +28,6 @@ module _ {l : Limits} {ws S₀ B₀ N₀ Q₀ m₀ S : List ℕ} (a : FillAsks l
   pub filling_last : get_or (take (n + 1) S) n 0 ≡ get_or (take (n + 1) S) (length (take (n + 1) S) - 1) 0
   filling_last = let e : length (take (n + 1) S) - 1 ≡ n = omega (arith, ap length exact, length_sums ws) in rw e
 
-  pub filling_starts : StartsAsk (take (n + 1) S) (take (n + 1) B₀) (take (n + 1) N₀) (take n Q₀) m₀
-  filling_starts =
-      let b = length-take-le (n + 1) B₀ a.best in
-      let x = length-take-le (n + 1) N₀ a.next in
-      let q = length-take-le n Q₀ a.queue in
-      let z = ap length exact ∙ length_sums ws in
-      record { best = omega arith; next = omega arith; queue = omega arith; moves = omega (arith, a.moves) }
-
   module _ (Q : List ℕ) {B N m : List ℕ} {count : ℕ} (st : Starts l (take (n + 1) S) m₀ count B N m)
       (kept : length Q ≡ length (take n Q₀)) where
     started : SetStarts l ws m₀ count B N m

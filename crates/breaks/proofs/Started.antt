@@ -2,7 +2,7 @@
 -- law states.
 use Rattle.std.proofs.Common.{◌≡◌, ap, ◌∙◌, ℕ, ◌+◌, ◌-◌, ◌*◌, ◌^◌, ◌≤◌, ◌<◌, List, map, length, get_or, take, drop, length-drop, arith}
 use Rattle.std.proofs.Math.Seq.{length-slice}
-use Rattle.std.proofs.lemmas.List.{length-map}
+use Rattle.strips.specs.Running.{length_codes}
 use Rattle.laws.specs.Part.{listed}
 use Rattle.laws.specs.Strip.{over, length_over, lent_is}
 use Rattle.paper.specs.declared.Limits.{Limits}
@@ -55,7 +55,7 @@ few_moves {l} {S} s k =
 pub started_length : {l : Limits} {S m₀ Q B N m : List ℕ} {q : Queue} {i : ℕ} → Started l S m₀ Q B N m q i → length m ≡ length m₀
 started_length {l} {S} {m₀} {i = i} s =
     let ms = (so_far l (words_of S) i).moves in
-    ap length s.moves ∙ length_over (map code ms) m₀ (omega (arith, length-map ms code, few_moves s.done.sums i))
+    ap length s.moves ∙ length_over (map code ms) m₀ (omega (arith, length_codes ms, few_moves s.done.sums i))
 
 -- ---- start i, where p is the measure of its lines
 pub record Turn (l : Limits) (S m₀ Q B N m : List ℕ) (q : Queue) (i : ℕ) (p : Measure) : Type 0 where

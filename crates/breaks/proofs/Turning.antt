@@ -2,14 +2,13 @@
 -- each law states.
 use Rattle.std.proofs.Common.{◌≡◌, ap, sym, ◌∙◌, ℕ, suc, ◌+◌, ◌-◌, ◌≤◌, List, ◌++◌, map, length, get_or, take, drop, length-append, arith}
 use borrow.Rule.Slice.PartMut.{put_mid}
-use Rattle.std.proofs.lemmas.List.{length-map, map-append}
 use Rattle.laws.specs.Part.{part_none}
 use Rattle.laws.specs.Strip.{over, onward, over_onward}
 use Rattle.paper.specs.declared.Limits.{Limits}
 use Rattle.paper.specs.Moves.{Taken, code, joined}
 use Rattle.paper.specs.QueueRules.{Standing, text_of, at_start, after_starts, queue_at}
 use Rattle.paper.specs.Strips.{best_entry}
-use Rattle.strips.specs.Running.{Ran, ran_lent}
+use Rattle.strips.specs.Running.{Ran, ran_lent, map_append, length_codes}
 use Rattle.strips.specs.Words.{words_of}
 use Rattle.lines.specs.declared.Measure.{Measure}
 use Rattle.lines.specs.Held.{begins, text_in}
@@ -73,8 +72,8 @@ module _ {l : Limits} {S m₀ Q B N m : List ℕ} {q : Queue} {i : ℕ} {p : Mea
       let before = (so_far l ws i).moves in
       ran.moves
       ∙ ap (onward q.moves (map code own.moves)) t.started.moves
-      ∙ over_onward (map code before) (map code own.moves) m₀ q.moves (t.started.count ∙ sym (length-map before code))
-      ∙ ap (λ (c : List ℕ). over c m₀) (sym (ap (map code) more ∙ map-append code before own.moves))
+      ∙ over_onward (map code before) (map code own.moves) m₀ q.moves (t.started.count ∙ sym (length_codes before))
+      ∙ ap (λ (c : List ℕ). over c m₀) (sym (ap (map code) more ∙ map_append before own.moves))
 
   pub turn_choose : {e : ℕ} → e ≡ get_or S (length S - 1) 0 → ChooseAsks l (get_or S (i - 1) 0) e Q' r
   unfolding best_entry

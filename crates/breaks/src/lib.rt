@@ -9,6 +9,7 @@ ghost use Rattle.breaks.specs.Asks.{Summed, ShortAsks, ShortDone, LastAsks, Begu
 
 use lines::{Measure, measure_from, moved};
 use paper::{Limits, Set, Unset};
+use queue::reading::Reading;
 use queue::{Queue, at_start};
 use strips::{NONE, fill_sums, follow};
 
@@ -146,7 +147,13 @@ fn starts(
     let begun = last_starts(text, best, next);
     'going_back: for i in (1..=begun).rev() {
         let p = moved(first, sums[i - 1]);
-        let at = at_start(l, i, p, sums, best, queue, q, &mut moves[q.moves..]);
+        let reading = Reading {
+            limits: l,
+            measure: p,
+            ends: sums,
+            best,
+        };
+        let at = at_start(reading, i, queue, q, &mut moves[q.moves..]);
         let chosen = choose(l, sums[i - 1], p, last, queue, at);
         settle(i, chosen, best, next);
         q = Queue {

@@ -16,7 +16,7 @@ use setter::{penalty_alone, set_index, set_paragraph};
 
 // 01's number (0 where something is set), place, total, lines and moves.
 #[repr(C)]
-#[derive(Clone, Copy, Debug, PartialEq, Eq)]
+#[derive(Clone, Copy, Debug, Default, PartialEq, Eq)]
 pub struct Numbers {
     pub number: u32,
     pub place: u64,
@@ -27,7 +27,7 @@ pub struct Numbers {
 
 // 01's number and place, the first count, the limits, and n.
 #[repr(C)]
-#[derive(Clone, Copy, Debug, PartialEq, Eq)]
+#[derive(Clone, Copy, Debug, Default, PartialEq, Eq)]
 pub struct JobNumbers {
     pub number: u32,
     pub place: u64,
@@ -43,15 +43,6 @@ pub struct JobNumbers {
 // The total that is told of a line outside the measure: 2^64 - 1, "no setting".
 const OUTSIDE: u64 = u64::MAX;
 
-// Nothing told.
-const NOTHING: Numbers = Numbers {
-    number: 0,
-    place: 0,
-    total: 0,
-    lines: 0,
-    moves: 0,
-};
-
 impl From<Refusal> for Numbers {
     ghost from_gives = { λ r t. t ≡ in_numbers (told_refusal r) };
 
@@ -60,7 +51,7 @@ impl From<Refusal> for Numbers {
         Numbers {
             number: t.number,
             place: t.place as u64,
-            ..NOTHING
+            ..Numbers::default()
         }
     }
 }
@@ -75,12 +66,12 @@ impl From<Result<Set, Unset>> for Numbers {
                 total: set.total,
                 lines: set.lines as u64,
                 moves: set.moves as u64,
-                ..NOTHING
+                ..Numbers::default()
             },
             Err(Unset::None { moves }) => Numbers {
                 number: 6,
                 moves: moves as u64,
-                ..NOTHING
+                ..Numbers::default()
             },
             Err(Unset::Refused(r)) => Numbers::from(r),
         }
@@ -95,29 +86,16 @@ impl From<Result<Option<u64>, Refusal>> for Numbers {
         match p {
             Ok(Some(penalty)) => Numbers {
                 total: penalty,
-                ..NOTHING
+                ..Numbers::default()
             },
             Ok(None) => Numbers {
                 total: OUTSIDE,
-                ..NOTHING
+                ..Numbers::default()
             },
             Err(r) => Numbers::from(r),
         }
     }
 }
-
-// Nothing told of a job.
-const NO_JOB: JobNumbers = JobNumbers {
-    number: 0,
-    place: 0,
-    count: 0,
-    lmin: 0,
-    lopt: 0,
-    lmax: 0,
-    a: 0,
-    space: 0,
-    n: 0,
-};
 
 impl From<Job> for JobNumbers {
     ghost from_gives = { λ job t. t ≡ in_job_numbers (told_limits job.limits.count job.limits.asked job.n) };
@@ -134,14 +112,14 @@ impl From<Job> for JobNumbers {
                 a: l.a,
                 space: l.space,
                 n,
-                ..NO_JOB
+                ..JobNumbers::default()
             },
             Asked::Index(l) => JobNumbers {
                 count,
                 lmin: l.lmin,
                 lmax: l.lmax,
                 n,
-                ..NO_JOB
+                ..JobNumbers::default()
             },
         }
     }
@@ -159,7 +137,7 @@ impl From<Result<Job, Refusal>> for JobNumbers {
                 JobNumbers {
                     number: t.number,
                     place: t.place,
-                    ..NO_JOB
+                    ..JobNumbers::default()
                 }
             }
         }

@@ -9,7 +9,6 @@ use Rattle.laws.specs.Outcome.{Promise, Is}
 use Rattle.paper.specs.Allowed.{most_words}
 use Rattle.paper.specs.Told.{told_refusal}
 use Rattle.job.specs.declared.JobLimits.{JobLimits}
-use Rattle.job.specs.declared.Job.{Job}
 use Rattle.job.specs.Reader.{JobAnswer, read_as}
 use Rattle.job.specs.Reader.{Reading, accept, section, counted, to_end, lengths_from, lengths_after}
 use Rattle.job.specs.Reader.{announced, limits_by, limits_from, reading, read_outcome}

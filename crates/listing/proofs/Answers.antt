@@ -56,7 +56,8 @@ module _ (job : List ℕ) {r : JobAnswer} {t : List ℕ} (p : Promise Is (read_o
   unfolding listing_of read_outcome Reader.reading_outcome reading_listing
   unread_listed {q} e = rw (← size) (go (reading job (length {A = ℕ} (replicate 4096 0))) (sym e ∙ p.tells))
     where
-      go : (o : Reading) → ◌≡◌ {A = JobAnswer} (Err q) ((Reader.reading_outcome o (replicate 4096 0)).answer) → reading_listing o ≡ refusal q
+      go : (o : Reading) → ◌≡◌ {A = JobAnswer} (Err q) ((Reader.reading_outcome o (replicate 4096 0)).answer) →
+          reading_listing o ≡ refusal q
       go (refuse q') f = let z : q ≡ q' = cc in rw z
       go (accept limits ws) f = let z : ◌≡◌ {A = ℕ} 0 1 = cc in absurd (omega arith)
 

@@ -21,7 +21,8 @@ use Rattle.listing.specs.Asks.{LineAsks, LineIs, SegmentAsks, SegmentsAsk}
 
 -- ---- the rows that stand first
 pub headed_fits : {at : ℕ} (kind : List ℕ) (n : ℕ) (cost : List ℕ) (total : ℕ) (starts : List ℕ) (count : ℕ) →
-    Fits at (headed kind n cost total starts count ∷ []) → Fits at (row kind (n ∷ []) ∷ row cost (total ∷ []) ∷ row starts (count ∷ []) ∷ [])
+    Fits at (headed kind n cost total starts count ∷ []) →
+    Fits at (row kind (n ∷ []) ∷ row cost (total ∷ []) ∷ row starts (count ∷ []) ∷ [])
 headed_fits kind n cost total starts count f =
     omega (
       arith,

@@ -1,6 +1,5 @@
 // The listing of a paragraph and of an index: what the setter answers, listed.
 ghost use Rattle.job.specs.declared.Asked.TheVariants.{Paragraph, Index};
-ghost use Rattle.rows.specs.Puts.{Puts};
 ghost use Rattle.laws.specs.Outcome.{Promise, Is};
 ghost use Rattle.listing.specs.Listing.{set_rows, asked_listing};
 ghost use Rattle.listing.specs.Asks.{RowsAsk, Answered};

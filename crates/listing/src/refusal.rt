@@ -1,8 +1,6 @@
 // The row of a refusal.
 ghost use Rattle.job.specs.Promise.{told_job};
 ghost use Rattle.listing.specs.Listing.{refused as refused_row};
-ghost use Rattle.listing.specs.Promise.{bytes_outcome};
-ghost use Rattle.laws.specs.Outcome.{Promise, Is};
 ghost use Rattle.refusals.specs.Tells.{Tells};
 
 use crate::whole::Put;

@@ -21,6 +21,7 @@ pub struct Start<'a> {
 }
 
 impl<'a> Start<'a> {
+    // Start i of a text.
     pub fn new(limits: PageLimits, i: usize, sums: &'a [u32]) -> Start<'a>
         requires held { Holds (page_limits_hold limits) 0 sums.now }
         requires low { i < length sums.now }

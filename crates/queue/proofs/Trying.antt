@@ -45,9 +45,6 @@ module _ {s : Start} {i : ℕ} {q : Part} {c t : ℕ} {m₀ : List ℕ} (a : Can
     abbrev now : Part
     now = part Q q.from r
 
-    pub trying_length : length m ≡ length m₀
-    trying_length = running_length _ t m₀ m u g.run
-
     done : (text_at s).lines.line i j < s.limits.lmin → CandidatesLeave s i q c t m₀ m (part Q q.from r) j u
     unfolding text_in
     done short = record {

@@ -9,12 +9,12 @@ ghost use Rattle.queue.specs.Asks.{stood, ShedAsks, LongDropped, WorseDropped, W
 ghost use Rattle.queue.specs.Asks.{start, AddAsks, ConsiderAsks, Adds, Considers, CandidatesAsk, CandidatesLeave};
 ghost use Rattle.queue.specs.Asks.{read, Costed, StartAsks, StartLeaves};
 
-use lines::{Break, Measure, bridged, curve, end_of};
-use paper::{Kind, Limits, Move};
+use lines::{Break, bridged, curve, end_of};
+use paper::{Kind, Move};
 use reading::Reading;
 use strips::{NONE, put};
 
-mod reading;
+pub mod reading;
 
 // Where the queue stands in its strip, the next candidate, the moves taken so far, and what the front costs: NONE with an empty queue.
 #[derive(Clone, Copy)]
@@ -163,26 +163,11 @@ impl Queue {
 }
 
 // The three rules at start i, which is lent the moves strip from the present count on. The moves in the answer are its own.
-pub fn at_start(
-    l: Limits,
-    i: usize,
-    p: Measure,
-    ends: &[u32],
-    best: &[u64],
-    queue: &mut [u32],
-    q: Queue,
-    moves: &mut [u32],
-) -> Queue
-    requires { StartAsks (start l p ends.now best.now) i queue.old q (length moves.old) }
-    ensures { StartLeaves (start l p ends.now best.now) i (stood queue.old q) q.candidate
+pub fn at_start(r: Reading, i: usize, queue: &mut [u32], q: Queue, moves: &mut [u32]) -> Queue
+    requires { StartAsks (read r) i queue.old q (length moves.old) }
+    ensures { StartLeaves (read r.entry) i (stood queue.old q) q.candidate
         moves.old result queue.new moves.new }
 {
-    let r = Reading {
-        limits: l,
-        measure: p,
-        ends,
-        best,
-    };
     let mut at = Queue { moves: 0, ..q };
     at.drop_long(r, queue, moves);
     at.candidates(r, i, queue, moves);

@@ -6,11 +6,11 @@ use paper::Limits;
 
 // The limits, the measure of the start's lines, where a line to each break ends, and each break's best.
 #[derive(Clone, Copy)]
-pub(crate) struct Reading<'a> {
-    pub(crate) limits: Limits,
-    pub(crate) measure: Measure,
-    pub(crate) ends: &'a [u32],
-    pub(crate) best: &'a [u64],
+pub struct Reading<'a> {
+    pub limits: Limits,
+    pub measure: Measure,
+    pub ends: &'a [u32],
+    pub best: &'a [u64],
     ghost same: { length best.now ≡ length ends.now },
 }
 
@@ -20,7 +20,7 @@ impl Reading<'_> {
     ghost use Rattle.queue.specs.Asks.{read, break_at, through_at, Costed};
 
     // Break j.
-    pub(crate) fn at(self, j: u32) -> Break
+    pub fn at(self, j: u32) -> Break
         requires { Indexed self.ends.now j }
         ensures { result ≡ break_at (read self.entry) j }
     {
@@ -28,7 +28,7 @@ impl Reading<'_> {
     }
 
     // F of break j at the start.
-    pub(crate) fn through(self, j: u32) -> u64
+    pub fn through(self, j: u32) -> u64
         requires { Costed (read self) j }
         ensures { (result ≡ through_at (read self.entry) j) × (result < 2 ^ 64 - 1) }
     {

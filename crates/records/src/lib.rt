@@ -1,7 +1,7 @@
 // A file of jobs for the vectors: records one after the other, each a size of 2 bytes, low byte first, and so many bytes.
 #![tactic(auto)]
 
-ghost use Rattle.std.specs.Prelude.{◌≡◌, ◌+◌, ◌<◌, length};
+ghost use Rattle.std.specs.Prelude.{length};
 ghost use Rattle.records.specs.Records.{SplitsShort};
 
 // The number of the first 2 bytes, low byte first, and the bytes after them.

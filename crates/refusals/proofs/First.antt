@@ -1,6 +1,6 @@
 -- What the library's searches of a list find is what 01's numbers of a first entry say. Assumes nothing.
-use Rattle.std.proofs.Common.{ℕ, ◌+◌, ◌≤◌, ◌≡◌, refl, sym, ◌∙◌, Bool, true, false, not, ◌&&◌, cond, eqb, ltb, leb, List, [], ◌∷◌, Option, Some, None, nat_lt, suc, ap, add-one, le-ltb, lt-ltb, inl, inr}
-use Rattle.std.proofs.Common.{arith, ne_eqb}
+use Rattle.std.proofs.Common.{ℕ, suc, ◌+◌, ◌≤◌, ◌≡◌, refl, sym, ◌∙◌, ap, inl, inr, List, [], ◌∷◌, Option, Some, None}
+use Rattle.std.proofs.Common.{Bool, true, false, not, ◌&&◌, cond, eqb, leb, nat_lt, arith, add-one, ne_eqb, le-ltb, lt-ltb}
 use Rattle.std.proofs.lemmas.Bool.Decides.{leb_tells}
 use Rattle.std.specs.List.{fold, position, position_from}
 use Rattle.std.proofs.lemmas.List.Folds.{fold_stays}

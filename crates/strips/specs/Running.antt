@@ -29,12 +29,18 @@ pub record Ran {A : Type 0} (whole : Taken A) (c : ℕ) (m₀ m : List ℕ) (k :
   pub count : k ≡ c + length whole.moves
   pub stands : whole.stands ≡ a
 
+pub map_append : (xs ys : List Move) → map code (xs ++ ys) ≡ map code xs ++ map code ys
+map_append = map-append code
+
+pub length_codes : (ms : List Move) → length (map code ms) ≡ length ms
+length_codes ms = length-map ms code
+
 -- the moves of one rule, and then those of the next
 pub written_after : (c : ℕ) (ms ns : List Move) (m : List ℕ) (k : ℕ) → k ≡ c + length ms → c ≤ length m →
     written k ns (written c ms m) ≡ written c (ms ++ ns) m
 written_after c ms ns m k e h =
-    onward_onward c (map code ms) m h (map code ns) k (omega (arith, e, length-map ms code))
-    ∙ ap (λ (l : List ℕ). onward c l m) (sym (map-append code ms ns))
+    onward_onward c (map code ms) m h (map code ns) k (omega (arith, e, length_codes ms))
+    ∙ ap (λ (l : List ℕ). onward c l m) (sym (map_append ms ns))
 
 module _ {A : Type 0} (whole : Taken A) (c : ℕ) (m₀ : List ℕ) where
   pub running_first : c ≤ length m₀ → Running whole whole c m₀ m₀ c
@@ -47,7 +53,7 @@ module _ {A : Type 0} (whole : Taken A) (c : ℕ) (m₀ : List ℕ) where
     pub running_length : {rest : Taken A} → Running whole rest c m₀ m k → length m ≡ length m₀
     running_length r =
         ap length r.is
-        ∙ length_onward c (map code r.done) m₀ (began r) (omega (arith, r.fits, r.count, length-map r.done code))
+        ∙ length_onward c (map code r.done) m₀ (began r) (omega (arith, r.fits, r.count, length_codes r.done))
 
     -- the rest, said in another way
     pub running_same : {rest more : Taken A} → rest ≡ more → Running whole rest c m₀ m k → Running whole more c m₀ m k
@@ -74,8 +80,8 @@ module _ {A : Type 0} (whole : Taken A) (c : ℕ) (m₀ : List ℕ) where
     running_more {rest} mv r room = record {
       done = r.done ++ (mv ∷ []);
       is = ap (λ (l : List ℕ). set l k (code mv)) r.is
-          ∙ onward_set c (map code r.done) m₀ (began r) (code mv) k (omega (arith, r.count, length-map r.done code)) room
-          ∙ ap (λ (l : List ℕ). onward c l m₀) (sym (map-append code r.done (mv ∷ [])));
+          ∙ onward_set c (map code r.done) m₀ (began r) (code mv) k (omega (arith, r.count, length_codes r.done)) room
+          ∙ ap (λ (l : List ℕ). onward c l m₀) (sym (map_append r.done (mv ∷ [])));
       count = simp length-append (omega (arith, r.count));
       so_far = r.so_far
           ∙ ap (λ (l : List Move). record { moves = l; stands = rest.stands }) (sym (append_assoc r.done (mv ∷ []) rest.moves));
@@ -102,7 +108,7 @@ pub ran_length : {A : Type 0} (whole : Taken A) (c : ℕ) (m₀ m : List ℕ) (k
     length m ≡ length m₀
 ran_length whole c m₀ m k a r room =
     ap length r.moves
-    ∙ length_onward c (map code whole.moves) m₀ (omega (arith, r.count)) (omega (arith, r.count, length-map whole.moves code))
+    ∙ length_onward c (map code whole.moves) m₀ (omega (arith, r.count)) (omega (arith, r.count, length_codes whole.moves))
 
 -- A rule was lent the part of the strip from place k on: in the whole it went on from there.
 pub ran_lent : {A : Type 0} (whole : Taken A) (k : ℕ) (m n : List ℕ) (u : ℕ) (a : A) → k ≤ length m →

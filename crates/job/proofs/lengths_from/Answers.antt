@@ -21,7 +21,8 @@ pub returns-in_err-section : goal.returns-in_err-section
 returns-in_err-section c =
     let read = rw (lent_is c.args.job.now c.args.at) at c.section.ensures in
     let p = err_from_is_err_and c.from_residual.result c.from_residual.ensures.1 in
-    rw (p.1, p.2) (refused (lengths_cut _ _ _ _ _ (omega arith) (omega arith) read c.in_err-section.was) (cut_kept read c.in_err-section.was))
+    rw (p.1, p.2)
+    (refused (lengths_cut _ _ _ _ _ (omega arith) (omega arith) read c.in_err-section.was) (cut_kept read c.in_err-section.was))
 
 pub returns : goal.returns
 returns c =

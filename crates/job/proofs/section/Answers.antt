@@ -1,4 +1,3 @@
-use Rattle.std.proofs.Common.{arith}
 use Rattle.job.proofs.Sections.{written_none, written_more, written_all, written_cut}
 use Rattle.job.proofs.section.Goals as goal
 

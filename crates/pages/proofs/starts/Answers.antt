@@ -1,4 +1,4 @@
-use Rattle.std.proofs.Common.{◌-◌, arith}
+use Rattle.std.proofs.Common.{arith}
 use Rattle.pages.proofs.Paging.{paging_ask, paging_began, paging_length, paging_fits, paging_next}
 use Rattle.pages.proofs.PagingEnds.{paging_first, paging_done}
 use Rattle.pages.proofs.starts.Goals as goal

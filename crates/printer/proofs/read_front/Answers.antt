@@ -23,5 +23,6 @@ loop-count-preserved g c =
     let r = c.in-Ok.ensures in
     record {
       within = omega (arith, r.bound.0);
-      front = subst (Consumes _ _) (read_on at (length xs - at) c.in-Ok.n xs c.read.new.buf i.within r.bound.0) (Consumes-trans _ _ _ _ _ i.front r.bytes.0);
+      front = subst (Consumes _ _) (read_on at (length xs - at) c.in-Ok.n xs c.read.new.buf i.within r.bound.0)
+          (Consumes-trans _ _ _ _ _ i.front r.bytes.0);
     }

@@ -4,7 +4,8 @@ use Rattle.refusals.proofs.First.{failing_at, failing_never, all_failing}
 use Rattle.refusals.proofs.check_lengths.Goals as goal
 
 pub returns-then-all_hold : goal.returns-then-all_hold
-returns-then-all_hold c = simp (sym (all_failing (length_holds c.args.space) c.args.lengths.now) ∙ sym c.all_hold.ensures ∙ c.if-all_hold.true)
+returns-then-all_hold c =
+    simp (sym (all_failing (length_holds c.args.space) c.args.lengths.now) ∙ sym c.all_hold.ensures ∙ c.if-all_hold.true)
 
 pub returns-in-Some : goal.returns-in-Some
 returns-in-Some c =

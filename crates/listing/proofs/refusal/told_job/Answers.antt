@@ -12,7 +12,8 @@ told-read job =
     go job.limits.asked
   where
     go : (asked : Asked) →
-        Tells (told_limits job.limits.count asked job.n).number (told_limits job.limits.count asked job.n).place (record { number = 0; place = 0 })
+        Tells (told_limits job.limits.count asked job.n).number (told_limits job.limits.count asked job.n).place
+        (record { number = 0; place = 0 })
     go (Paragraph l) = record { is_number = refl; is_place = refl }
     go (Index l) = record { is_number = refl; is_place = refl }
 

@@ -24,7 +24,10 @@ returns-then-length-l c =
     ]))
 
 pub penalty-requires : goal.penalty-requires
-penalty-requires c = (ranges _ (rw (sym c.hold.ensures ∙ c.if-not-hold.false) tt), (c.if-length-l.false, ltb-false _ _ c.if-l-length.false-raw))
+penalty-requires c = (
+  ranges _ (rw (sym c.hold.ensures ∙ c.if-not-hold.false) tt),
+  (c.if-length-l.false, ltb-false _ _ c.if-l-length.false-raw),
+)
 
 pub returns : goal.returns
 returns c =
