@@ -88,8 +88,10 @@ fn short_starts(
     requires { ShortAsks text.now.limits below taken from text.now.sums.now best.old next.old }
     ensures { ShortDone text.now.limits below from text.now.sums.now best.new next.new result }
 {
+    let Text { limits, sums, last } = *text;
+    let narrow = below + limits.space;
     for i in (1..=from).rev() {
-        if below + text.limits.space <= text.last - text.sums[i - 1] {
+        if narrow <= last - sums[i - 1] {
             return i;
         }
         settle(i, taken, best, next);

@@ -18,7 +18,8 @@ struct Captions<'a> {
 
 // What is listed and n, the total, and the count of the starts, each after its caption.
 fn heading(rows: &mut Rows, captions: Captions, n: usize, total: u64, count: usize)
-    requires { Fits rows.old.at (row captions.kind.now (n ∷ []) ∷ row captions.total.now (total ∷ []) ∷ row captions.starts.now (count ∷ []) ∷ []) }
+    requires { Fits rows.old.at
+        (row captions.kind.now (n ∷ []) ∷ row captions.total.now (total ∷ []) ∷ row captions.starts.now (count ∷ []) ∷ []) }
     ensures { Writes (headed captions.entry.kind.now n captions.entry.total.now total captions.entry.starts.now count)
         rows.old rows.new }
 {

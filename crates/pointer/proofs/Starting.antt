@@ -12,7 +12,8 @@ use Rattle.pointer.specs.declared.start.Start.{Start}
 use Rattle.pointer.specs.Held.{best_at, bests_size, bests_at, bests_more}
 use Rattle.pointer.specs.Taking.{HasRoom, Took}
 use Rattle.pointer.specs.Asks.{StartStrips, start_strips, text_of, pointing_from, joining}
-use Rattle.pointer.specs.Asks.{JumpsAsk, JoinAsk, PointerSettleAsk, PointerStartAsk, JoinCame, PointerSettled, PointerStarted, Applied}
+use Rattle.pointer.specs.Asks.{JumpsAsk, JoinAsk, JoinCame, PointerSettleAsk, PointerSettled}
+use Rattle.pointer.specs.Asks.{PointerStartAsk, PointerStarted, ApplyAsk, Applied}
 use Rattle.pointer.proofs.Gaps.{start_size}
 use Rattle.pointer.proofs.Joined.{join_room}
 use Rattle.pointer.proofs.Taking.{room_first, room_next, took_both}
@@ -88,7 +89,10 @@ module _ {s : Start} {r : ℕ} {t : StartStrips} {m₀ : Moves} (a : PointerStar
       unfolding at_start
       start_done joins = record { took = took_both points then m₀ a.room took (joins.took q); best = entered; next = settled.next }
 
--- a start that was lent the moves strip from the present count on, and took its moves from its front
+-- ---- a start that is lent the moves strip from the present count on, and takes its moves from its front
+pub lent_ask : {s : Start} {r : ℕ} {t : StartStrips} {m : Moves} → ApplyAsk s r t m.strip.now → m.taken ≡ 0 → PointerStartAsk s r t m
+lent_ask a none = record { ready = a.ready; bests = a.bests; next_size = a.next_size; room = omega (arith, a.room) }
+
 pub lent_done : {s : Start} {r q : ℕ} {t u : StartStrips} {m₀ m : Moves} → PointerStarted s r t m₀ q u m → m₀.taken ≡ 0 →
     {M : List ℕ} → M ≡ m.strip.now → Applied s r t m₀.strip.now (record { at = q; moves = m.taken }) u M
 lent_done d none back = record { ran = rw back (rw none at d.took.ran); best = d.best; next = d.next }

@@ -124,7 +124,7 @@ impl Start<'_> {
 
 impl Start<'_> {
     ghost use Rattle.pointer.specs.Asks.{text_of, start_strips, ChoiceAsk, Chosen, PointerSettleAsk, PointerSettled};
-    ghost use Rattle.pointer.specs.Asks.{PointerStartAsk, PointerStarted, ApplyAsk, Applied};
+    ghost use Rattle.pointer.specs.Asks.{ApplyAsk, Applied};
 
     // The length that the start counts: nothing for 0.
     fn own(&self) -> u64
@@ -168,28 +168,8 @@ impl Start<'_> {
         total
     }
 
-    // The pointer, the choice, the links. Answers what r came to.
-    fn rules(
-        &self,
-        best: &mut [u64],
-        next: &mut [u32],
-        left: &mut [u32],
-        right: &mut [u32],
-        r: usize,
-        moves: &mut Moves,
-    ) -> usize
-        requires { PointerStartAsk self.now r (start_strips best.old next.old left.old right.old) moves.old }
-        ensures { PointerStarted self.now r
-            (start_strips best.old next.old left.old right.old) moves.old
-            result (start_strips best.new next.new left.new right.new) moves.new }
-    {
-        let at = self.point(left, r, moves);
-        let cost = self.settle(best, next, at);
-        self.join(cost, best, left, right, moves);
-        at
-    }
-
-    // One start, which is lent the moves strip from the present count on. The moves in the answer are its own.
+    // The pointer, the choice, the links of one start, which is lent the moves strip from the present count on.
+    // The moves in the answer are its own.
     pub fn apply(
         &self,
         best: &mut [u64],
@@ -204,7 +184,9 @@ impl Start<'_> {
             result (start_strips best.new next.new left.new right.new) strip.new }
     {
         let mut moves = Moves { strip, taken: 0 };
-        let at = self.rules(best, next, left, right, r, &mut moves);
+        let at = self.point(left, r, &mut moves);
+        let cost = self.settle(best, next, at);
+        self.join(cost, best, left, right, &mut moves);
         Came {
             at,
             moves: moves.taken,

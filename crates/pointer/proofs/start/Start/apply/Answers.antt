@@ -1,13 +1,18 @@
-use Rattle.std.proofs.Common.{sym, refl, rules, arith}
-use Rattle.pointer.proofs.Starting.{lent_done}
+use Rattle.std.proofs.Common.{sym, refl, rules}
+use Rattle.pointer.proofs.Starting.{start_points, start_settles, start_joins, start_done, lent_ask, lent_done}
 use Rattle.pointer.proofs.start.Start.apply.Goals as goal
 
-pub rules-at-requires : goal.rules-at-requires
-rules-at-requires c =
-    let a = c.requires in
-    record { ready = a.ready; bests = a.bests; next_size = a.next_size; room = omega (arith, a.room) }
+pub point-at-requires : goal.point-at-requires
+point-at-requires c = start_points (lent_ask c.requires refl)
+
+pub settle-cost-requires : goal.settle-cost-requires
+settle-cost-requires c = start_settles (lent_ask c.requires refl) c.point-at.ensures
+
+pub join-requires : goal.join-requires
+join-requires c = start_joins (lent_ask c.requires refl) c.point-at.ensures c.settle-cost.ensures
 
 pub returns : goal.returns
 returns c =
-    let same = sym c.rules-at.ensures.took.same in
-    lent_done c.rules-at.ensures refl (search rules)
+    let d = start_done (lent_ask c.requires refl) c.point-at.ensures c.settle-cost.ensures c.join.ensures in
+    let same = sym d.took.same in
+    lent_done d refl (search rules)
