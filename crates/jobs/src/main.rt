@@ -3,6 +3,6 @@
 
 use printer::print_listings;
 
-fn main(rt: HostRuntime) {
-    print_listings(&rt);
+fn main() {
+    print_listings();
 }

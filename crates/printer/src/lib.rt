@@ -7,8 +7,10 @@ ghost use Rattle.listing.specs.Listing.{listing_of};
 
 use listing::list;
 use records::Records;
-use std::io;
-use std::io::{Read, Write};
+use standard::{Input, Output};
+use std::io::{Read, Result, Write};
+
+pub mod standard;
 
 // Reads as much of the input as the buffer holds. Answers the bytes that came. A read that fails ends the input.
 pub fn read_front<'a, R: Read>(input: &mut R, buffer: &'a mut [u8]) -> &'a [u8]
@@ -26,7 +28,7 @@ pub fn read_front<'a, R: Read>(input: &mut R, buffer: &'a mut [u8]) -> &'a [u8]
 }
 
 // Prints the listing of a job.
-pub fn print_listing<W: Write>(output: &mut W, job: &[u8]) -> io::Result<()>
+pub fn print_listing<W: Write>(output: &mut W, job: &[u8]) -> Result<()>
     ensures { OnOk result
         (Appends (W.contents output.old) (W.contents output.new) (listing_of job.now)) }
 {
@@ -38,10 +40,10 @@ pub fn print_listing<W: Write>(output: &mut W, job: &[u8]) -> io::Result<()>
 }
 
 // Prints the listings of a file of jobs, read from standard input, one after the other. A write that fails shows in what is compared.
-pub fn print_listings(rt: &(impl Input + Print)) {
+pub fn print_listings() {
     let mut buffer = [0u8; 65536];
-    let file = read_front(&mut rt.reader(), &mut buffer);
+    let file = read_front(&mut Input::default(), &mut buffer);
     for job in Records(file) {
-        let _ = print_listing(&mut io::writer(rt), job);
+        let _ = print_listing(&mut Output, job);
     }
 }

@@ -6,7 +6,7 @@ use capi::hathurmo_set_index;
 use paper::PageLimits;
 
 // Sets an index of up to 12 items in strips whose entries are all 7, and prints of each 2 entries more than 01 asks for.
-pub fn trace(rt: &impl Print, l: PageLimits, lengths: &[u32])
+pub fn trace(l: PageLimits, lengths: &[u32])
     requires { length lengths.now ≤ 12 }
 {
     let n = lengths.len();
@@ -28,12 +28,12 @@ pub fn trace(rt: &impl Print, l: PageLimits, lengths: &[u32])
         &mut moves,
         &mut boundaries,
     );
-    print::strip(rt, "sums", &sums[..n + 3]);
-    print::strip(rt, "best", &best[..n + 4]);
-    print::strip(rt, "next", &next[..n + 4]);
-    print::strip(rt, "left", &left[..n + 4]);
-    print::strip(rt, "right", &right[..n + 4]);
-    print::strip(rt, "moves", &moves[..2 * n + 2]);
-    print::strip(rt, "boundaries", &boundaries[..n + 2]);
-    print::told(rt, told);
+    print::strip("sums:", &sums[..n + 3]);
+    print::strip("best:", &best[..n + 4]);
+    print::strip("next:", &next[..n + 4]);
+    print::strip("left:", &left[..n + 4]);
+    print::strip("right:", &right[..n + 4]);
+    print::strip("moves:", &moves[..2 * n + 2]);
+    print::strip("boundaries:", &boundaries[..n + 2]);
+    print::told(told);
 }

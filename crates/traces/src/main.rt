@@ -11,10 +11,11 @@ ghost use Rattle.std.specs.Prelude.{◌≤◌, length};
 use job::Asked;
 use paper::Limits;
 use printer::read_front;
+use printer::standard::Input;
 use records::{Records, split_short};
 
 // Prints the strips of what a job asks for, and of a paragraph the penalties.
-fn trace_asked(rt: &impl Print, asked: Asked, edition: u16, lastmin: u16, lengths: &[u32])
+fn trace_asked(asked: Asked, edition: u16, lastmin: u16, lengths: &[u32])
     requires { length lengths.now ≤ 12 }
 {
     match asked {
@@ -24,15 +25,15 @@ fn trace_asked(rt: &impl Print, asked: Asked, edition: u16, lastmin: u16, length
                 lastmin: u32::from(lastmin),
                 ..l
             };
-            paragraph::trace(rt, limits, lengths);
-            paragraph::penalties(rt, limits, lengths);
+            paragraph::trace(limits, lengths);
+            paragraph::penalties(limits, lengths);
         }
-        Asked::Index(l) => index::trace(rt, l, lengths),
+        Asked::Index(l) => index::trace(l, lengths),
     }
 }
 
 // Prints the strips of one record whose job has up to 12 lengths. A job that is refused prints nothing.
-fn trace(rt: &impl Print, record: &[u8]) {
+fn trace(record: &[u8]) {
     let Some((edition, rest)) = split_short(record) else {
         return;
     };
@@ -44,14 +45,14 @@ fn trace(rt: &impl Print, record: &[u8]) {
         return;
     };
     if let Some(lengths) = lengths.get(..given.n) {
-        trace_asked(rt, given.limits.asked, edition, lastmin, lengths);
+        trace_asked(given.limits.asked, edition, lastmin, lengths);
     }
 }
 
-fn main(rt: HostRuntime) {
+fn main() {
     let mut buffer = [0u8; 65536];
-    let file = read_front(&mut rt.reader(), &mut buffer);
+    let file = read_front(&mut Input::default(), &mut buffer);
     for record in Records(file) {
-        trace(&rt, record);
+        trace(record);
     }
 }

@@ -6,14 +6,14 @@ use capi::{hathurmo_penalty, hathurmo_set_paragraph};
 use paper::Limits;
 
 // Prints what is told of the penalty of a line of each length, asked for alone.
-pub fn penalties(rt: &impl Print, l: Limits, lengths: &[u32]) {
+pub fn penalties(l: Limits, lengths: &[u32]) {
     for length in lengths {
-        print::told(rt, hathurmo_penalty(l, *length));
+        print::told(hathurmo_penalty(l, *length));
     }
 }
 
 // Sets a paragraph of up to 12 words in strips whose entries are all 7, and prints of each 2 entries more than 01 asks for.
-pub fn trace(rt: &impl Print, l: Limits, lengths: &[u32])
+pub fn trace(l: Limits, lengths: &[u32])
     requires { length lengths.now ≤ 12 }
 {
     let n = lengths.len();
@@ -33,11 +33,11 @@ pub fn trace(rt: &impl Print, l: Limits, lengths: &[u32])
         &mut moves,
         &mut breaks,
     );
-    print::strip(rt, "sums", &sums[..n + 3]);
-    print::strip(rt, "best", &best[..n + 3]);
-    print::strip(rt, "next", &next[..n + 3]);
-    print::strip(rt, "queue", &queue[..n + 2]);
-    print::strip(rt, "moves", &moves[..2 * n + 2]);
-    print::strip(rt, "breaks", &breaks[..n + 2]);
-    print::told(rt, told);
+    print::strip("sums:", &sums[..n + 3]);
+    print::strip("best:", &best[..n + 3]);
+    print::strip("next:", &next[..n + 3]);
+    print::strip("queue:", &queue[..n + 2]);
+    print::strip("moves:", &moves[..2 * n + 2]);
+    print::strip("breaks:", &breaks[..n + 2]);
+    print::told(told);
 }

@@ -1,33 +1,35 @@
-// Lines of text on standard output. A write that fails shows in what is compared, so no answer is looked at.
+// Text on standard output, a word at a write. A write that fails shows in what is compared, so no answer is looked at.
 use capi::Numbers;
-use std::fmt;
+use printer::standard::Output;
+use std::fmt::Display;
+use std::io::Write;
 
-// A strip's entries under its name.
-#[derive(Clone, Copy, Debug)]
-struct Named<'a, T> {
-    name: &'a str,
-    entries: &'a [T],
+fn put<T: Display + Drop>(text: T) {
+    let _ = write!(Output, "{text}");
 }
 
-impl<T: fmt::Display> fmt::Display for Named<'_, T> {
-    fn fmt<W: fmt::Write>(&self, f: &mut fmt::Formatter<W>) -> fmt::Result {
-        write!(f, "{}:", self.name)?;
-        for entry in self.entries {
-            write!(f, " {entry}")?;
-        }
-        Ok(())
+// A space and a number.
+fn entry<T: Display + Drop>(x: T) {
+    put(" ");
+    put(x);
+}
+
+// The entries of a strip, after its name.
+pub fn strip<T: Display>(name: &str, entries: &[T]) {
+    put(name);
+    for x in entries {
+        entry(x);
     }
-}
-
-// The entries of a strip.
-pub fn strip<T: fmt::Display>(rt: &impl Print, name: &str, entries: &[T]) {
-    let _ = rt.println(Named { name, entries });
+    put("\n");
 }
 
 // What was told.
-pub fn told(rt: &impl Print, t: Numbers) {
-    let _ = println!(rt;
-        "told {} {} {} {} {}",
-        t.number, t.place, t.total, t.lines, t.moves
-    );
+pub fn told(t: Numbers) {
+    put("told");
+    entry(t.number);
+    entry(t.place);
+    entry(t.total);
+    entry(t.lines);
+    entry(t.moves);
+    put("\n");
 }
