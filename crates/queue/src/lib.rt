@@ -43,6 +43,7 @@ impl Queue {
         ensures rule { LongDropped r.entry.ends.now r.entry.measure.far (stood queue.now self.old) self.old.moves
             moves.old moves.new self.new.front self.new.moves }
         ensures stays { (self.new.end ≡ self.old.end) × (self.new.candidate ≡ self.old.candidate) }
+        ensures cost { self.new.cost ≡ self.old.cost }
     {
         'dropping: for j in &queue[self.front..self.end] {
             if end_of(r.ends, *j) <= r.measure.far {
@@ -59,6 +60,7 @@ impl Queue {
         ensures rule { WorsePopped (read r.entry) cost (stood queue.now self.old) self.old.moves
             moves.old moves.new self.new.end self.new.moves }
         ensures stays { (self.new.front ≡ self.old.front) × (self.new.candidate ≡ self.old.candidate) }
+        ensures cost { self.new.cost ≡ self.old.cost }
     {
         'popping: for rear in (self.front..self.end).rev() {
             let k = queue[rear];
@@ -76,6 +78,7 @@ impl Queue {
         ensures rule { BridgedPopped (read r.entry) new (stood queue.now self.old) self.old.moves
             moves.old moves.new self.new.end self.new.moves }
         ensures stays { (self.new.front ≡ self.old.front) × (self.new.candidate ≡ self.old.candidate) }
+        ensures cost { self.new.cost ≡ self.old.cost }
     {
         'popping: for rear in (self.front + 1..self.end).rev() {
             let k = queue[rear];
@@ -118,6 +121,7 @@ impl Queue {
         ensures rule { Adds (read r.entry) self.old.candidate (stood queue.old self.old) self.old.moves
             moves.old self.new.end self.new.moves queue.new moves.new }
         ensures stays { (self.new.front ≡ self.old.front) × (self.new.candidate ≡ self.old.candidate) }
+        ensures cost { self.new.cost ≡ self.old.cost }
     {
         let index = self.candidate as u32;
         let cost = curve(r.limits, r.measure.goal, new);
@@ -135,6 +139,7 @@ impl Queue {
         ensures rule { Considers (read r.entry) self.old.candidate (stood queue.old self.old) self.old.moves
             moves.old self.new.end self.new.moves queue.new moves.new }
         ensures stays { (self.new.front ≡ self.old.front) × (self.new.candidate ≡ self.old.candidate) }
+        ensures cost { self.new.cost ≡ self.old.cost }
     {
         if r.measure.far < new.end || new.best == NONE {
             self.take(Kind::Pass, self.candidate as u32, moves);
@@ -150,6 +155,7 @@ impl Queue {
         ensures rule { CandidatesLeave (read r.entry) i (stood queue.old self.old) self.old.candidate
             self.old.moves moves.old moves.new (stood queue.new self.new) self.new.candidate self.new.moves }
         ensures stays { self.new.front ≡ self.old.front }
+        ensures cost { self.new.cost ≡ self.old.cost }
     {
         'falling: while i < self.candidate {
             let new = r.at(self.candidate as u32);

@@ -3,7 +3,7 @@ use Rattle.queue.proofs.Trying.{trying_first, trying_more, trying_stop, trying_e
 use Rattle.queue.proofs.Queue.candidates.Goals as goal
 
 pub falling-init : goal.falling-init
-falling-init c = record { rule = trying_first c.requires; stays = refl }
+falling-init c = record { rule = trying_first c.requires; stays = refl; cost = refl }
 
 pub falling-preserved : goal.falling-preserved
 falling-preserved c =
@@ -13,6 +13,7 @@ falling-preserved c =
           (trying_more c.requires c.falling.invariant.rule c.falling-test.true c.at-new.ensures c.if-new-r.false
           (rw front at c.consider.ensures.rule));
       stays = c.consider.ensures.stays.0 ∙ front;
+      cost = c.consider.ensures.cost ∙ c.falling.invariant.cost;
     }
 
 pub returns-then-new-r-clause-rule : goal.returns-then-new-r-clause-rule

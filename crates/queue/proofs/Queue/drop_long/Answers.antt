@@ -5,7 +5,7 @@ use Rattle.queue.proofs.Dropping.{long_more, long_stop, long_none}
 use Rattle.queue.proofs.Queue.drop_long.Goals as goal
 
 pub dropping-init : goal.dropping-init
-dropping-init c = record { rule = shed_first c.requires; stays = (refl, refl); at = omega arith }
+dropping-init c = record { rule = shed_first c.requires; stays = (refl, refl); cost = refl; at = omega arith }
 
 pub dropping-preserved : goal.dropping-preserved
 dropping-preserved c =
@@ -16,6 +16,7 @@ dropping-preserved c =
     (record {
       rule = long_more c.requires inv.rule (omega arith) (rw is at c.end_of.ensures) c.if-end_of-r.false (rw is at c.take.ensures.written);
       stays = inv.stays;
+      cost = inv.cost;
       at = omega (arith, inv.at);
     })
 

@@ -8,5 +8,6 @@ invariant-dropping l = record {
   rule : LongDropping l.r.ends.now l.r.measure.far (stood l.queue l.initial.self) l.initial.self.moves l.initial.moves l.moves
       l.self.front l.self.moves;
   stays : (l.self.end ≡ l.initial.self.end) × (l.self.candidate ≡ l.initial.self.candidate);
+  cost : l.self.cost ≡ l.initial.self.cost;
   at : l.self.front ≡ l.initial.self.front + l.j-index;
 }

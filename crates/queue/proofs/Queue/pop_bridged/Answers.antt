@@ -4,7 +4,7 @@ use Rattle.queue.proofs.Popping.{bridge_more, bridge_stop, bridge_none}
 use Rattle.queue.proofs.Queue.pop_bridged.Goals as goal
 
 pub popping-init : goal.popping-init
-popping-init c = record { rule = shed_first c.requires.shed; stays = (refl, refl); at = refl }
+popping-init c = record { rule = shed_first c.requires.shed; stays = (refl, refl); cost = refl; at = refl }
 
 pub popping-preserved : goal.popping-preserved
 popping-preserved c =
@@ -14,6 +14,7 @@ popping-preserved c =
       rule = bridge_more c.requires inv.rule (omega arith) c.at.ensures c.at-in-popping.ensures c.bridged.ensures
           c.if-not-bridged.false c.take.ensures.written;
       stays = inv.stays;
+      cost = inv.cost;
       at = refl;
     })
 

@@ -4,7 +4,7 @@ use Rattle.queue.proofs.Popping.{worse_more, worse_stop, worse_none}
 use Rattle.queue.proofs.Queue.pop_worse.Goals as goal
 
 pub popping-init : goal.popping-init
-popping-init c = record { rule = shed_first c.requires; stays = (refl, refl); at = refl }
+popping-init c = record { rule = shed_first c.requires; stays = (refl, refl); cost = refl; at = refl }
 
 pub popping-preserved : goal.popping-preserved
 popping-preserved c =
@@ -13,6 +13,7 @@ popping-preserved c =
     (record {
       rule = worse_more c.requires inv.rule (omega arith) c.through.ensures.0 c.if-through-cost.false c.take.ensures.written;
       stays = inv.stays;
+      cost = inv.cost;
       at = refl;
     })
 

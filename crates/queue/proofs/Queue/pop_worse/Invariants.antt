@@ -8,5 +8,6 @@ invariant-popping l = record {
   rule : WorsePopping (read l.r) l.cost (stood l.queue l.initial.self) l.initial.self.moves l.initial.moves l.moves
       l.rear l.self.moves;
   stays : (l.self.front ≡ l.initial.self.front) × (l.self.candidate ≡ l.initial.self.candidate);
+  cost : l.self.cost ≡ l.initial.self.cost;
   at : l.self.end ≡ l.rear;
 }
