@@ -35,7 +35,9 @@ fn all_hold(space: u32, lengths: &[u32]) -> bool
         .fold(true, |hold, w| hold & length_holds(space, *w))
 }
 
-// The place of the first word whose length is not allowed.
+// The place of the first word whose length is not allowed. Only a list that is refused comes here: not put into its caller, where the
+// search would hold the caller's values.
+#[inline(never)]
 fn first_bad(space: u32, lengths: &[u32]) -> Option<usize>
     ensures { result ≡ position (λ w. not (length_holds space w)) lengths.now }
 {
